@@ -1,0 +1,3 @@
+pub mod Members
+pub mod Law
+pub mod Refusals

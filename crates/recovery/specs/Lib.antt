@@ -1,0 +1,3 @@
+pub mod Recovers
+pub mod Rules
+pub mod Weights

@@ -1,0 +1,22 @@
+-- A call's turn, where it is refused and where it is not. Assumes nothing.
+use mathlib.Core.Bool.{Bool, true, false, cond}
+use mathlib.Core.Path.{_≡_, refl, sym, ap, _∙_, subst}
+use Rattle.std.specs.declared.option.Option.{Option}
+use Rattle.std.specs.declared.option.Option.the-variants.{Some, None}
+use Rattle.std.specs.declared.result.Result.the-variants.{Ok, Err}
+use Rattle.refusal.specs.declared.kind.Refusal.{Refusal}
+use Rattle.refusal.specs.Answer.{refuse, outcome, unless, Turns}
+
+pub refuse-here : (test : Bool) (f : Refusal) (rest : Option Refusal) → test ≡ true → refuse test f rest ≡ Some f
+refuse-here test f rest t = ap (λ b. cond b (Some f) rest) t
+
+pub refuse-later : (test : Bool) (f : Refusal) (rest : Option Refusal) → test ≡ false → refuse test f rest ≡ rest
+refuse-later test f rest t = ap (λ b. cond b (Some f) rest) t
+
+pub turns-refused : {S : Type 0} (f : Option Refusal) (x : Refusal) (was becomes : S) → f ≡ Some x → Turns f was becomes (Err x) was
+turns-refused f x was becomes e =
+    subst (λ o. Turns o was becomes (Err x) was) (sym e) (record { answer = refl; leaves = refl })
+
+pub turns-done : {S : Type 0} (f : Option Refusal) (was becomes is : S) → f ≡ None → is ≡ becomes → Turns f was becomes (Ok tt) is
+turns-done f was becomes is e s =
+    subst (λ o. Turns o was becomes (Ok tt) is) (sym e) (record { answer = refl; leaves = s })
