@@ -2,7 +2,8 @@
 use mathlib.Core.Bool.{Bool, true, false, cond, not, _&&_}
 use mathlib.Core.Logic.{⊎-elim}
 use mathlib.Core.Path.{_≡_, refl, sym, ap, ap₂, _∙_}
-use Prim.Native.Nat.{ℕ, zero, suc, _<_}
+use Prim.Native.Nat.{ℕ, zero, suc, _+_, _<_}
+use native.Mathlib.Numerals.{add-one}
 use native.Mathlib.Omega.{arith}
 use lib.Dec.{lit<, eqb}
 use Rattle.std.proofs.shelf.Tests.{cases-eq, cond-true, cond-false, eq-eqb, ne-eqb, and-right, not-from-true}
@@ -17,7 +18,7 @@ use Rattle.recovery.proofs.Nonzero.{Nonzero, mul-nonzero}
 abbrev pub without : (ℕ → Bool) → ℕ → ℕ → Bool
 without chosen a j = chosen j && not (eqb j a)
 
-without-itself : (chosen : ℕ → Bool) (a j : ℕ) → j ≡ a → without chosen a j ≡ false
+pub without-itself : (chosen : ℕ → Bool) (a j : ℕ) → j ≡ a → without chosen a j ≡ false
 without-itself chosen a j e = and-right (chosen j) _ (not-from-true (eqb j a) (eq-eqb j a e))
 
 and-true : (b : Bool) → (b && true) ≡ b
@@ -26,6 +27,15 @@ and-true false = refl
 
 pub without-other : (chosen : ℕ → Bool) (a j : ℕ) → (j ≡ a → ⊥) → without chosen a j ≡ chosen j
 without-other chosen a j ne = ap (λ b. chosen j && not b) (ne-eqb j a ne) ∙ and-true (chosen j)
+
+-- one number more, chosen or not
+pub multiplied-more : (chosen : ℕ → Bool) (f : ℕ → ℕ) (n : ℕ) → chosen n ≡ true → multiplied chosen f (n + 1) ≡ mul (multiplied chosen f n) (f n)
+unfolding multiplied
+multiplied-more chosen f n t = rw add-one (cond-true (chosen n) _ _ t)
+
+pub multiplied-skip : (chosen : ℕ → Bool) (f : ℕ → ℕ) (n : ℕ) → chosen n ≡ false → multiplied chosen f (n + 1) ≡ multiplied chosen f n
+unfolding multiplied
+multiplied-skip chosen f n t = rw add-one (cond-false (chosen n) _ _ t)
 
 pub multiplied-same : (p q : ℕ → Bool) (f : ℕ → ℕ) (n : ℕ) → ((i : ℕ) → i < n → p i ≡ q i) → multiplied p f n ≡ multiplied q f n
 unfolding multiplied
