@@ -13,27 +13,19 @@ use Rattle.std.specs.Options.{isSome, valueOr}
 use Rattle.std.specs.declared.option.Option.{Option}
 use Rattle.std.specs.declared.option.Option.the-variants.{Some, None}
 use Rattle.std.proofs.shelf.Counted.{getD-map-counting, length-map-counting}
-use Rattle.std.proofs.shelf.Lists.{ext-getD, getD-past}
-use Rattle.std.proofs.shelf.Tests.{cases-lt, false≢true}
+use Rattle.std.proofs.shelf.Lists.{getD-past}
+use Rattle.std.proofs.shelf.Tests.{cases-lt}
 use Rattle.block.specs.Block.{Block, Blocks, Held, IsBlock}
 use Rattle.block.specs.Count.{count}
+use Rattle.block.proofs.Bytes.{same-block}
 use Rattle.field.specs.Field.{mul}
 use Rattle.field.specs.Sums.{summed}
 use Rattle.field.proofs.Laws.{mul-byte}
 use Rattle.recovery.specs.Recovers.{ByteWord, Recovers, recovered}
 use Rattle.recovery.proofs.Sums.{summed-same, summed-byte}
 use Rattle.code.specs.Word.{Coding, Completes, All-blocks, Has, Any-k-blocks-belong-to-exactly-one-word}
-use Rattle.code.proofs.Law.{Agree, any-k}
+use Rattle.code.proofs.Law.{Agree, any-k, some-value}
 use Rattle.bytewise.specs.Words.{Recipe, Word-by-bytes, held, column, completed, coded}
-
--- two blocks with the same bytes
-pub same-block : (a b : Block) → length a ≡ 64 → length b ≡ 64 → ((j : ℕ) → j < 64 → getD a j 0 ≡ getD b j 0) → a ≡ b
-same-block a b la lb h = ext-getD 0 a b (la ∙ sym lb) (λ j l. h j (subst (λ n. j < n) la l))
-
--- a held block is there
-some-held : (o : Option Block) → isSome o ≡ true → o ≡ Some (valueOr o [])
-some-held (Some b) e = refl
-some-held None e = absurd (false≢true e)
 
 module _ (r : Recipe) (h : Held) where
   abbrev byte-at : ℕ → ℕ → ℕ
@@ -81,7 +73,7 @@ module _ (r : Recipe) (h : Held) where
       same-block (w c) (completed r h c) (word .blocks c l .size) (completed-size c)
         (λ j lj. sym (recovers .gives (held h) enough (λ c. getD (w c) j 0) (word .columns j lj) c l)
           ∙ summed-same (held h) _ _ (r .k + r .m)
-              (λ i li ti. ap (λ b. mul (getD b j 0) (r .weight (held h) c i)) (has i (valueOr (h i) []) li (some-held (h i) ti)))
+              (λ i li ti. ap (λ b. mul (getD b j 0) (r .weight (held h) c i)) (has i (valueOr (h i) []) li (some-value (h i) ti)))
           ∙ sym (completed-at c j lj))
 
 pub completes : (r : Recipe) → Recovers (r .k) (r .m) (r .rule) (r .weight) → Completes (coded r)

@@ -1,21 +1,13 @@
--- What one turn of a loop over marks or blocks does. Assumes nothing.
-use mathlib.Core.Bool.{Bool, true, false, not}
+-- What one turn of a loop over flags or blocks does. Assumes nothing.
+use mathlib.Core.Bool.{Bool, false}
 use mathlib.Core.List.{List}
 use mathlib.Core.Logic.{⊎-elim}
 use mathlib.Core.Path.{_≡_, sym, ap, _∙_}
 use Prim.Native.Nat.{ℕ, _+_, _-_, _<_}
 use native.Mathlib.Omega.{arith}
-use lib.Dec.{eqb}
 use lib.ListN.{length, getD, set, take, drop}
 use Rattle.std.proofs.shelf.Lists.{getD-take, getD-drop, getD-set-same, getD-set-other}
-use Rattle.std.proofs.shelf.Tests.{cases-eq, eq-eqb, ne-eqb}
-use Rattle.code.specs.Calls.{marks-held}
-
-pub mark-held : (marks : List ℕ) (i : ℕ) → (getD marks i 0 ≡ 0 → ⊥) → marks-held marks i ≡ true
-mark-held marks i ne = ap not (ne-eqb (getD marks i 0) 0 ne)
-
-pub mark-missing : (marks : List ℕ) (i : ℕ) → getD marks i 0 ≡ 0 → marks-held marks i ≡ false
-mark-missing marks i e = ap not (eq-eqb (getD marks i 0) 0 e)
+use Rattle.std.proofs.shelf.Tests.{cases-eq}
 
 -- a byte of the part that is cut out for a block
 pub part-byte : (bytes : List ℕ) (at j : ℕ) → j < 64 → getD (take (at + 64 - at) (drop at bytes)) j 0 ≡ getD bytes (at + j) 0

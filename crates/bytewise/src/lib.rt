@@ -13,6 +13,8 @@ ghost use Rattle.code.specs.Word.{Limits, lowest};
 ghost use Rattle.code.specs.Calls.{Checks, Rebuilds, check-refusal, rebuild-refusal, first, marked, marks-held};
 ghost use Rattle.bytewise.specs.Words.{Recipe, Works, coded, completed};
 use block::BLOCK;
+use block::wipe;
+use code::count_held;
 use field::product;
 use refusal::kind::Refusal;
 
@@ -52,15 +54,6 @@ fn add_scaled(out: &mut [u8], block: &[u8], weight: u8)
     }
 }
 
-// Zeros in every place.
-fn wipe(out: &mut [u8])
-    ensures { λ _. ⌜ ((j : ℕ) → j < length (now (out .exit)) → getD (now (out .exit)) j 0 ≡ 0) ⌝ }
-{
-    for x in out.iter_mut() {
-        *x = 0;
-    }
-}
-
 // Writes check e, the sum of the data, each times its coefficient.
 fn sum_data<B: Bytewise>(code: &B, e: usize, given: &[u8], out: &mut [u8])
     requires number { ⌜ e < B·Bytewise .recipe (now code) .m ⌝ }
@@ -72,19 +65,6 @@ fn sum_data<B: Bytewise>(code: &B, e: usize, given: &[u8], out: &mut [u8])
         let at = d * BLOCK;
         add_scaled(out, &given[at..at + BLOCK], code.coefficient(e, d));
     }
-}
-
-// How many marks say that a block is held.
-fn count_held(marks: &[u8]) -> usize
-    ensures { λ r. ⌜ r ≡ count (marks-held (now (marks .entry))) (length (now (marks .entry))) ⌝ }
-{
-    let mut n = 0;
-    for i in 0..marks.len() {
-        if marks[i] != 0 {
-            n += 1;
-        }
-    }
-    n
 }
 
 // Chooses the k held blocks with the lowest numbers.

@@ -1,6 +1,6 @@
 -- The law of a code, from its form by held blocks. Assumes nothing.
 use mathlib.Core.Bool.{Bool, true, false, cond}
-use mathlib.Core.List.{List}
+use mathlib.Core.List.{List, []}
 use mathlib.Core.Path.{_≡_, refl, sym, ap, _∙_, subst}
 use Prim.Native.Nat.{ℕ, _+_, _<_}
 use lib.ListN.{length}
@@ -31,6 +31,11 @@ some-if false x y e = absurd (false≢true (ap isSome e))
 pub is-some : (b : Bool) (x : Block) → isSome (cond b (Some x) None) ≡ b
 is-some true x = refl
 is-some false x = refl
+
+-- a held block is there
+pub some-value : (o : Option Block) → isSome o ≡ true → o ≡ Some (valueOr o [])
+some-value (Some b) e = refl
+some-value None e = absurd (false≢true e)
 
 module _ (ns : List ℕ) (put : Blocks) where
   put-blocks : (n : ℕ) → All (λ i. IsBlock (put i)) ns → All-blocks n (held-at ns put)

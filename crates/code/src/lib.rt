@@ -1,7 +1,9 @@
 // Codes: k data blocks, m check blocks, and any k of them give all of them back.
 ghost use mathlib.Core.Path.{_≡_};
+ghost use lib.ListN.{length};
+ghost use Rattle.block.specs.Count.{count};
 ghost use Rattle.code.specs.Word.{Coding, Limits, Any-k-blocks-belong-to-exactly-one-word, Completes};
-ghost use Rattle.code.specs.Calls.{Checks, Rebuilds};
+ghost use Rattle.code.specs.Calls.{Checks, Rebuilds, marks-held};
 use refusal::kind::Refusal;
 
 // The numbers of blocks in a word.
@@ -41,4 +43,17 @@ pub trait Code {
         out: &mut [u8],
     ) -> Result<(), Refusal>
         ensures { λ r. ⌜ Rebuilds (coding (now (self .entry))) number (now (marks .entry)) (now (blocks .entry)) (now (out .entry)) r (now (out .exit)) ⌝ };
+}
+
+// How many marks say that a block is held.
+pub fn count_held(marks: &[u8]) -> usize
+    ensures { λ r. ⌜ r ≡ count (marks-held (now (marks .entry))) (length (now (marks .entry))) ⌝ }
+{
+    let mut n = 0;
+    for i in 0..marks.len() {
+        if marks[i] != 0 {
+            n += 1;
+        }
+    }
+    n
 }

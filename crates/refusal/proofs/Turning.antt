@@ -3,6 +3,7 @@ use mathlib.Core.Bool.{Bool, true, false, cond}
 use mathlib.Core.Path.{_≡_, refl, sym, ap, _∙_, subst}
 use Rattle.std.specs.declared.option.Option.{Option}
 use Rattle.std.specs.declared.option.Option.the-variants.{Some, None}
+use Rattle.std.specs.declared.result.Result.{Result}
 use Rattle.std.specs.declared.result.Result.the-variants.{Ok, Err}
 use Rattle.refusal.specs.declared.kind.Refusal.{Refusal}
 use Rattle.refusal.specs.Answer.{refuse, outcome, unless, Turns}
@@ -20,3 +21,7 @@ turns-refused f x was becomes e =
 pub turns-done : {S : Type 0} (f : Option Refusal) (was becomes is : S) → f ≡ None → is ≡ becomes → Turns f was becomes (Ok tt) is
 turns-done f was becomes is e s =
     subst (λ o. Turns o was becomes (Ok tt) is) (sym e) (record { answer = refl; leaves = s })
+
+-- what a call leaves where it is not refused
+pub turned : {S : Type 0} (f : Option Refusal) (was becomes : S) (r : Result Unit Refusal) (is : S) → Turns f was becomes r is → f ≡ None → is ≡ becomes
+turned f was becomes r is t e = t .leaves ∙ ap (λ o. unless o was becomes) e

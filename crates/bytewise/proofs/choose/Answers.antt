@@ -8,7 +8,8 @@ use Rattle.std.proofs.shelf.Lists.{set-set}
 use Rattle.block.specs.Count.{count}
 use Rattle.block.proofs.Counts.{count-more, count-skip, count-le}
 use Rattle.code.specs.Calls.{marks-held}
-use Rattle.bytewise.proofs.Steps.{mark-held, mark-missing, test-more}
+use Rattle.code.proofs.Marks.{mark-held, mark-missing}
+use Rattle.bytewise.proofs.Steps.{test-more}
 use Rattle.bytewise.proofs.choose.Needs as need
 use Rattle.bytewise.proofs.choose.Needs.{then-marks-i-ne0, else-marks-i-ne0}
 

@@ -2,10 +2,10 @@ use mathlib.Core.Path.{_≡_, sym, ap, _∙_}
 use Prim.Native.Nat.{_+_}
 use native.Mathlib.Omega.{arith}
 use Rattle.block.proofs.Counts.{count-more, count-skip, count-le}
 use Rattle.code.specs.Calls.{marks-held}
-use Rattle.bytewise.proofs.Steps.{mark-held, mark-missing}
-use Rattle.bytewise.proofs.count_held.Needs as need
-use Rattle.bytewise.proofs.count_held.Needs.{then-marks-i-ne0, else-marks-i-ne0}
+use Rattle.code.proofs.Marks.{mark-held, mark-missing}
+use Rattle.code.proofs.count_held.Needs as need
+use Rattle.code.proofs.count_held.Needs.{then-marks-i-ne0, else-marks-i-ne0}
 
 pub add-n : need.add-n
 add-n c = omega (arith, count-le (marks-held (c .args .marks .now)) (c .loop-i .i))
