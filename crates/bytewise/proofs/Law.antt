@@ -45,8 +45,8 @@ module _ (r : Recipe) (h : Held) where
     size = completed-size c;
     bytes = λ j.
         ⊎-elim (λ (l : j < 64). subst (λ x. x < 256) (sym (completed-at c j l)) (byte-below c j))
-          (λ (l : 64 ≤ j). subst (λ x. x < 256) (sym (getD-past (completed r h c) j 0 (subst (λ n. n ≤ j) (sym (completed-size c)) l))) (lit< tt))
-          (cases-lt j 64);
+        (λ (l : 64 ≤ j). subst (λ x. x < 256) (sym (getD-past (completed r h c) j 0 (subst (λ n. n ≤ j) (sym (completed-size c)) l))) (lit< tt))
+        (cases-lt j 64);
   }
 
   module _ (recovers : Recovers (r .k) (r .m) (r .rule) (r .weight)) (enough : count (held h) (r .k + r .m) ≡ r .k) where
@@ -62,8 +62,8 @@ module _ (r : Recipe) (h : Held) where
         let block = blocks c b l e in
         let is : (j : ℕ) → column h j c ≡ getD b j 0 = λ j. ap (λ o. getD (valueOr o []) j 0) e in
         same-block (completed r h c) b (completed-size c) (block .size)
-          (λ j lj. completed-at c j lj
-            ∙ recovers .has (held h) enough (column h j) c l (ap isSome e) (subst (λ x. x < 256) (sym (is j)) (block .bytes j)) ∙ is j)
+        (λ j lj. completed-at c j lj
+        ∙ recovers .has (held h) enough (column h j) c l (ap isSome e) (subst (λ x. x < 256) (sym (is j)) (block .bytes j)) ∙ is j)
 
   -- the bytes of a word that has what is held are what the held bytes give
   pub word-at : Recovers (r .k) (r .m) (r .rule) (r .weight) → count (held h) (r .k + r .m) ≡ r .k
@@ -71,10 +71,10 @@ module _ (r : Recipe) (h : Held) where
       → (c : ℕ) → c < r .k + r .m → w c ≡ completed r h c
   word-at recovers enough w word has c l =
       same-block (w c) (completed r h c) (word .blocks c l .size) (completed-size c)
-        (λ j lj. sym (recovers .gives (held h) enough (λ c. getD (w c) j 0) (word .columns j lj) c l)
-          ∙ summed-same (held h) _ _ (r .k + r .m)
-              (λ i li ti. ap (λ b. mul (getD b j 0) (r .weight (held h) c i)) (has i (valueOr (h i) []) li (some-value (h i) ti)))
-          ∙ sym (completed-at c j lj))
+      (λ j lj. sym (recovers .gives (held h) enough (λ c. getD (w c) j 0) (word .columns j lj) c l)
+      ∙ summed-same (held h) _ _ (r .k + r .m)
+      (λ i li ti. ap (λ b. mul (getD b j 0) (r .weight (held h) c i)) (has i (valueOr (h i) []) li (some-value (h i) ti)))
+      ∙ sym (completed-at c j lj))
 
 pub completes : (r : Recipe) → Recovers (r .k) (r .m) (r .rule) (r .weight) → Completes (coded r)
 completes r recovers = record {
@@ -86,4 +86,4 @@ completes r recovers = record {
 pub determines : (r : Recipe) → Recovers (r .k) (r .m) (r .rule) (r .weight) → Any-k-blocks-belong-to-exactly-one-word (coded r)
 determines r recovers =
     any-k (coded r) (completes r recovers)
-      (λ h w v enough ww wv hw hv i l. word-at r h recovers enough w ww hw i l ∙ sym (word-at r h recovers enough v wv hv i l))
+    (λ h w v enough ww wv hw hv i l. word-at r h recovers enough w ww hw i l ∙ sym (word-at r h recovers enough v wv hv i l))

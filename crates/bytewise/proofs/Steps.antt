@@ -19,4 +19,4 @@ pub test-more : (test : ℕ → Bool) (xs ys : List Bool) (i : ℕ) (b : Bool) �
 test-more test xs ys i b l is below here x h =
     ap (λ zs. getD zs x false) is
     ∙ ⊎-elim (λ (e : x ≡ i). ap (λ y. getD (set xs i b) y false) e ∙ getD-set-same xs i b false l ∙ here ∙ ap test (sym e))
-        (λ (ne : x ≡ i → ⊥). getD-set-other xs i x b false ne ∙ below x (omega arith)) (cases-eq x i)
+    (λ (ne : x ≡ i → ⊥). getD-set-other xs i x b false ne ∙ below x (omega arith)) (cases-eq x i)

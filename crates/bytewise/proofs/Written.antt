@@ -26,7 +26,7 @@ module _ (r : Recipe) (works : Works r) (given : List ℕ) (long : length given 
   first-is : (d : ℕ) → d < r .k → completed r (first (r .k) given) d ≡ block-at given d
   first-is d l =
       completed-has r (first (r .k) given) (works .recovers) (first-count (r .k) (r .m) given) (first-blocks (r .k) (r .k + r .m) given (omega arith) small)
-        d (block-at given d) (omega arith) (first-at (r .k) given d l)
+      d (block-at given d) (omega arith) (first-at (r .k) given d l)
 
   -- the sum of the data, each times its coefficient, is the check of their word
   pub check-written : (e : ℕ) → e < r .m → (out : List ℕ) → length out ≡ 64
@@ -36,11 +36,11 @@ module _ (r : Recipe) (works : Works r) (given : List ℕ) (long : length given 
       let h = first (r .k) given in
       let word = completed-word r h (works .recovers) (first-count (r .k) (r .m) given) in
       same-block out (completed r h (r .k + e)) size (completed-size r h (r .k + e))
-        (λ j lj. bytes j lj
-          ∙ sym (word .columns j lj .checks e l
-            ∙ works .sums e (λ d. getD (completed r h d) j 0) l (λ d ld. word .columns j lj .bytes d (omega arith))
-            ∙ summed-same every _ _ (r .k)
-                (λ d ld t. ap (λ x. mul x (r .coefficient e d)) (ap (λ b. getD b j 0) (first-is d ld) ∙ block-byte given d j lj))))
+      (λ j lj. bytes j lj
+      ∙ sym (word .columns j lj .checks e l
+      ∙ works .sums e (λ d. getD (completed r h d) j 0) l (λ d ld. word .columns j lj .bytes d (omega arith))
+      ∙ summed-same every _ _ (r .k)
+      (λ d ld t. ap (λ x. mul x (r .coefficient e d)) (ap (λ b. getD b j 0) (first-is d ld) ∙ block-byte given d j lj))))
 
 -- the flags of the k lowest held blocks
 module _ (k n : ℕ) (marks blocks : List ℕ) (chosen : List Bool) (long : length marks ≡ n) (flags : length chosen ≡ n)
@@ -48,8 +48,8 @@ module _ (k n : ℕ) (marks blocks : List ℕ) (chosen : List Bool) (long : leng
   chosen-are : (i : ℕ) → getD chosen i false ≡ among-lowest k (marks-held marks) i
   chosen-are i =
       ⊎-elim (are i)
-        (λ (l : n ≤ i). getD-past chosen i false (omega arith)
-          ∙ sym (ap (λ x. not (eqb x 0) && ltb (count (marks-held marks) i) k) (getD-past marks i 0 (omega arith)))) (cases-lt i n)
+      (λ (l : n ≤ i). getD-past chosen i false (omega arith)
+      ∙ sym (ap (λ x. not (eqb x 0) && ltb (count (marks-held marks) i) k) (getD-past marks i 0 (omega arith)))) (cases-lt i n)
 
   flags-held : held (lowest k (marked marks blocks)) ≡ (λ i. getD chosen i false)
   flags-held = fun-ext (λ i. lowest-held k marks blocks i ∙ sym (chosen-are i))
@@ -69,8 +69,8 @@ rebuild-written r marks blocks chosen long flags are c out size bytes =
     let h = lowest (r .k) (marked marks blocks) in
     let test : ℕ → Bool = λ i. getD chosen i false in
     same-block out (completed r h c) size (completed-size r h c)
-      (λ j lj. bytes j lj
-        ∙ sym (completed-at r h c j lj
-          ∙ ap (λ (p : ℕ → Bool). summed p (λ i. mul (column h j i) (r .weight p c i)) n) (flags-held (r .k) n marks blocks chosen long flags are)
-          ∙ summed-same test _ _ n
-              (λ i li t. ap (λ x. mul x (r .weight test c i)) (flags-column (r .k) n marks blocks chosen long flags are i j lj t))))
+    (λ j lj. bytes j lj
+    ∙ sym (completed-at r h c j lj
+    ∙ ap (λ (p : ℕ → Bool). summed p (λ i. mul (column h j i) (r .weight p c i)) n) (flags-held (r .k) n marks blocks chosen long flags are)
+    ∙ summed-same test _ _ n
+    (λ i li t. ap (λ x. mul x (r .weight test c i)) (flags-column (r .k) n marks blocks chosen long flags are i j lj t))))

@@ -14,7 +14,7 @@ ghost use Rattle.code.specs.Calls.{Checks, Rebuilds, check-refusal, rebuild-ref
 ghost use Rattle.bytewise.specs.Words.{Recipe, Works, coded, completed};
 use block::BLOCK;
 use block::wipe;
-use code::count_held;
+use code::too_few;
 use field::product;
 use refusal::kind::Refusal;
 
@@ -154,7 +154,7 @@ fn rebuild_refused<B: Bytewise>(
     if marks.len() != n || given != n * BLOCK || room != BLOCK {
         return Some(Refusal::Length);
     }
-    if count_held(marks) < code.data() {
+    if too_few(marks, code.data()) {
         return Some(Refusal::TooFewBlocks);
     }
     if number >= n {

@@ -28,7 +28,7 @@ module _ (p : ℕ → Bool) where
   picked-length zero = refl
   picked-length (suc n) =
       elim (p n) as (λ b. length (cond b (n ∷ picked p n) (picked p n)) ≡ cond b (suc (count p n)) (count p n))
-        [ true ↦ ap suc (picked-length n) | false ↦ picked-length n ]
+      [ true ↦ ap suc (picked-length n) | false ↦ picked-length n ]
 
   picked-all : (P : ℕ → Type 0) (n : ℕ) → ((i : ℕ) → i < n → p i ≡ true → P i) → All P (picked p n)
   unfolding picked
@@ -36,14 +36,14 @@ module _ (p : ℕ → Bool) where
   picked-all P (suc n) h =
       let rest : All P (picked p n) = picked-all P n (λ i l. h i (omega arith)) in
       (elim (p n) as (λ b. (b ≡ true → P n) → All P (cond b (n ∷ picked p n) (picked p n)))
-        [ true ↦ λ g. (g refl, rest) | false ↦ λ g. rest ]) (h n (omega arith))
+      [ true ↦ λ g. (g refl, rest) | false ↦ λ g. rest ]) (h n (omega arith))
 
   picked-distinct : (n : ℕ) → Distinct (picked p n)
   unfolding picked
   picked-distinct zero = tt
   picked-distinct (suc n) =
       elim (p n) as (λ b. Distinct (cond b (n ∷ picked p n) (picked p n)))
-        [ true ↦ (picked-all (λ y. n ≡ y → ⊥) n (λ i l t q. omega arith), picked-distinct n) | false ↦ picked-distinct n ]
+      [ true ↦ (picked-all (λ y. n ≡ y → ⊥) n (λ i l t q. omega arith), picked-distinct n) | false ↦ picked-distinct n ]
 
 pub agree : (c : Coding) → Completes c → Any-k-blocks-belong-to-exactly-one-word c → Agree c
 agree c completes law h w v enough ww wv hw hv i l =
@@ -51,9 +51,9 @@ agree c completes law h w v enough ww wv hw hv i l =
     let held : ℕ → Bool = λ i. isSome (h i) in
     let put : Blocks = λ i. valueOr (h i) [] in
     let is : (u : Blocks) → Has n u h → All (λ i. u i ≡ put i) (picked held n) =
-        λ u hu. picked-all held (λ i. u i ≡ put i) n (λ i li t. hu i (put i) li (some-value (h i) t)) in
+    λ u hu. picked-all held (λ i. u i ≡ put i) n (λ i li t. hu i (put i) li (some-value (h i) t)) in
     let one = law (picked held n) (picked-length held n ∙ enough) (picked-distinct held n) (picked-all held (λ i. i < n) n (λ i li t. li)) put
-        (picked-all held (λ i. IsBlock (put i)) n (λ i li t. subst IsBlock (hw i (put i) li (some-value (h i) t)) (completes .blocks w i ww li))) in
+    (picked-all held (λ i. IsBlock (put i)) n (λ i li t. subst IsBlock (hw i (put i) li (some-value (h i) t)) (completes .blocks w i ww li))) in
     one .only w ww (is w hw) i l ∙ sym (one .only v wv (is v hv) i l)
 
 -- where the marks leave k blocks of a word, the rebuild of any block gives that of the word

@@ -31,8 +31,8 @@ is-block bytes i n l room small = record {
   size = block-size bytes i n l room;
   bytes = λ j.
       ⊎-elim (λ (h : j < 64). subst (λ x. x < 256) (sym (block-byte bytes i j h)) (small (i * 64 + j)))
-        (λ (h : 64 ≤ j). subst (λ x. x < 256) (sym (getD-past (block-at bytes i) j 0 (subst (λ x. x ≤ j) (sym (block-size bytes i n l room)) h))) (omega arith))
-        (cases-lt j 64);
+      (λ (h : 64 ≤ j). subst (λ x. x < 256) (sym (getD-past (block-at bytes i) j 0 (subst (λ x. x ≤ j) (sym (block-size bytes i n l room)) h))) (omega arith))
+      (cases-lt j 64);
 }
 
 -- the first k
@@ -68,16 +68,17 @@ count-lowest : (k : ℕ) (p : ℕ → Bool) (n : ℕ) → count (among-lowest k 
 count-lowest k p zero = omega arith
 count-lowest k p (suc n) =
     elim (p n) as (λ b. cond (b && ltb (count p n) k) (suc (count (among-lowest k p) n)) (count (among-lowest k p) n)
-        + (cond b (suc (count p n)) (count p n) - k) ≡ cond b (suc (count p n)) (count p n))
-      [ true ↦ ⊎-elim
+    + (cond b (suc (count p n)) (count p n) - k) ≡ cond b (suc (count p n)) (count p n)) [
+      | true ↦ ⊎-elim
           (λ (l : count p n < k).
-            ap (λ t. cond t (suc (count (among-lowest k p) n)) (count (among-lowest k p) n) + (suc (count p n) - k)) (lt-ltb (count p n) k l)
-            ∙ omega (arith, count-lowest k p n))
+          ap (λ t. cond t (suc (count (among-lowest k p) n)) (count (among-lowest k p) n) + (suc (count p n) - k)) (lt-ltb (count p n) k l)
+          ∙ omega (arith, count-lowest k p n))
           (λ (l : k ≤ count p n).
-            ap (λ t. cond t (suc (count (among-lowest k p) n)) (count (among-lowest k p) n) + (suc (count p n) - k)) (le-ltb (count p n) k l)
-            ∙ omega (arith, count-lowest k p n))
+          ap (λ t. cond t (suc (count (among-lowest k p) n)) (count (among-lowest k p) n) + (suc (count p n) - k)) (le-ltb (count p n) k l)
+          ∙ omega (arith, count-lowest k p n))
           (cases-lt (count p n) k)
-      | false ↦ count-lowest k p n ]
+      | false ↦ count-lowest k p n
+    ]
 
 module _ (k : ℕ) (marks bytes : List ℕ) where
   counts-marked : (i : ℕ) → count-held (marked marks bytes) i ≡ count (marks-held marks) i
@@ -91,7 +92,7 @@ module _ (k : ℕ) (marks bytes : List ℕ) where
   pub lowest-at : (i : ℕ) → among-lowest k (marks-held marks) i ≡ true → lowest k (marked marks bytes) i ≡ Some (block-at bytes i)
   lowest-at i t =
       both-if (ltb (count-held (marked marks bytes) i) k) (marks-held marks i) (block-at bytes i)
-        (ap (λ x. marks-held marks i && ltb x k) (counts-marked i) ∙ t)
+      (ap (λ x. marks-held marks i && ltb x k) (counts-marked i) ∙ t)
 
   -- what is held among the lowest was marked as held, and is the block there
   pub lowest-some : (i : ℕ) (b : Block) → lowest k (marked marks bytes) i ≡ Some b → (marks-held marks i ≡ true) × (block-at bytes i ≡ b)

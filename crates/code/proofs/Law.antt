@@ -59,7 +59,7 @@ module _ (ns : List ℕ) (put : Blocks) where
   unfolding held-at
   from-held n w below has =
       along (λ i. w i ≡ put i) ns ns (λ i t. t)
-        (λ i t. has i (put i) (at-member (λ i. i < n) ns below i t) (ap (λ b. cond b (Some (put i)) None) t))
+      (λ i t. has i (put i) (at-member (λ i. i < n) ns below i t) (ap (λ b. cond b (Some (put i)) None) t))
 
 pub any-k : (c : Coding) → Completes c → Agree c → Any-k-blocks-belong-to-exactly-one-word c
 any-k c completes agree ns len distinct below put blocks =

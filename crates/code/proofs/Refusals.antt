@@ -1,4 +1,4 @@
--- Which refusal a rebuild meets, once its lengths are right. Assumes nothing.
+-- A rebuild with the right lengths, enough held blocks and a right number is not refused. Assumes nothing.
 use mathlib.Core.Bool.{Bool, true, false, not, _||_}
 use mathlib.Core.List.{List}
 use mathlib.Core.Path.{_≡_, refl, sym, ap, _∙_}
@@ -6,12 +6,12 @@ use Prim.Native.Nat.{ℕ, _+_, _*_, _<_, _≤_}
 use lib.Dec.{eqb, leb, ltb}
 use lib.ListN.{length}
 use Rattle.std.specs.declared.option.Option.{Option}
-use Rattle.std.specs.declared.option.Option.the-variants.{Some, None}
-use Rattle.std.proofs.shelf.Tests.{eq-eqb, lt-ltb, le-ltb, lt-leb}
+use Rattle.std.specs.declared.option.Option.the-variants.{None}
+use Rattle.std.proofs.shelf.Tests.{eq-eqb, le-ltb, lt-leb}
 use Rattle.refusal.specs.Answer.{refuse}
 use Rattle.refusal.specs.declared.kind.Refusal.{Refusal}
 use Rattle.refusal.specs.declared.kind.Refusal.the-variants.{Length, TooFewBlocks, BlockNumber}
-use Rattle.refusal.proofs.Turning.{refuse-here, refuse-later}
+use Rattle.refusal.proofs.Turning.{refuse-later}
 use Rattle.block.specs.Count.{count}
 use Rattle.code.specs.Word.{Coding}
 use Rattle.code.specs.Calls.{marks-held, rebuild-refusal}
@@ -25,9 +25,6 @@ module _ (c : Coding) (i : ℕ) (marks : List ℕ) (given room : ℕ)
       ≡ refuse (ltb (count (marks-held marks) (length marks)) (c .k)) TooFewBlocks (refuse (leb (c .k + c .m) i) BlockNumber None)
   past-lengths =
       refuse-later _ Length _ (none-wrong _ _ _ (eq-eqb (length marks) (c .k + c .m) flags) (eq-eqb given ((c .k + c .m) * 64) long) (eq-eqb room 64 block))
-
-  pub too-few : count (marks-held marks) (length marks) < c .k → rebuild-refusal c i marks given room ≡ Some TooFewBlocks
-  too-few few = past-lengths ∙ refuse-here _ TooFewBlocks _ (lt-ltb (count (marks-held marks) (length marks)) (c .k) few)
 
   pub accepted : c .k ≤ count (marks-held marks) (length marks) → i < c .k + c .m → rebuild-refusal c i marks given room ≡ None
   accepted enough below =

@@ -1,5 +1,6 @@
 // Codes: k data blocks, m check blocks, and any k of them give all of them back.
 ghost use mathlib.Core.Path.{_≡_};
+ghost use lib.Dec.{ltb};
 ghost use lib.ListN.{length};
 ghost use Rattle.block.specs.Count.{count};
 ghost use Rattle.code.specs.Word.{Coding, Limits, Any-k-blocks-belong-to-exactly-one-word, Completes};
@@ -46,7 +47,7 @@ pub trait Code {
 }
 
 // How many marks say that a block is held.
-pub fn count_held(marks: &[u8]) -> usize
+fn count_held(marks: &[u8]) -> usize
     ensures { λ r. ⌜ r ≡ count (marks-held (now (marks .entry))) (length (now (marks .entry))) ⌝ }
 {
     let mut n = 0;
@@ -56,4 +57,11 @@ pub fn count_held(marks: &[u8]) -> usize
         }
     }
     n
+}
+
+// Whether the marks leave fewer than k blocks.
+pub fn too_few(marks: &[u8], k: usize) -> bool
+    ensures { λ r. ⌜ r ≡ ltb (count (marks-held (now (marks .entry))) (length (now (marks .entry)))) k ⌝ }
+{
+    count_held(marks) < k
 }

@@ -9,14 +9,13 @@ ghost use Rattle.code.specs.Making.{admitted, Makes};
 ghost use Rattle.bytewise.specs.Words.{coded};
 ghost use Rattle.codes.specs.Examples.{Field-and-Cauchy-examples};
 ghost use Rattle.codes.specs.Recipes.{cauchy-recipe};
+use crate::cauchy::Cauchy;
 use bytewise::Bytewise;
 use code::Code;
 use code::Sizes;
 use field::inverse;
 use field::product;
 use refusal::kind::Refusal;
-
-use crate::cauchy::Cauchy;
 
 // Every data block, as chosen blocks.
 const EVERY: [bool; 12] = [true; 12];

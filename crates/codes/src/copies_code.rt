@@ -3,12 +3,11 @@ ghost use mathlib.Core.Path.{_≡_};
 ghost use Rattle.code.specs.Making.{admitted, Makes};
 ghost use Rattle.bytewise.specs.Words.{coded};
 ghost use Rattle.codes.specs.Recipes.{copy-recipe};
+use crate::copies::Copies;
 use bytewise::Bytewise;
 use code::Code;
 use code::Sizes;
 use refusal::kind::Refusal;
-
-use crate::copies::Copies;
 
 impl Copies {
     // One data block and m copies of it.
@@ -46,10 +45,7 @@ pub impl Code for Copies as CopiesCode {
     ghost coding = { λ s. coded (copy-recipe (s .m)) };
 
     fn sizes(&self) -> Sizes {
-        Sizes {
-            k: 1,
-            m: self.m,
-        }
+        Sizes { k: 1, m: self.m }
     }
 
     fn check(&self, e: usize, given: &[u8], out: &mut [u8]) -> Result<(), Refusal> {

@@ -1,10 +1,9 @@
 // The three codes of the store: copies, the XOR sum, and Cauchy Reed-Solomon.
 pub mod cauchy;
-pub mod copies;
-pub mod xor_sum;
-
 mod cauchy_code;
+pub mod copies;
 mod copies_code;
+pub mod xor_sum;
 mod xor_sum_code;
 
 pub use cauchy_code::CauchyBytes;

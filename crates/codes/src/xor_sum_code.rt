@@ -3,12 +3,11 @@ ghost use mathlib.Core.Path.{_≡_};
 ghost use Rattle.code.specs.Making.{admitted, Makes};
 ghost use Rattle.bytewise.specs.Words.{coded};
 ghost use Rattle.codes.specs.Recipes.{sum-recipe};
+use crate::xor_sum::XorSum;
 use bytewise::Bytewise;
 use code::Code;
 use code::Sizes;
 use refusal::kind::Refusal;
-
-use crate::xor_sum::XorSum;
 
 impl XorSum {
     // k data blocks and their XOR.
@@ -38,11 +37,7 @@ pub impl Bytewise for XorSum as XorSumBytes {
     }
 
     fn weight(&self, chosen: &[bool], wanted: usize, i: usize) -> u8 {
-        if chosen[wanted] && wanted != i {
-            0
-        } else {
-            1
-        }
+        if chosen[wanted] && wanted != i { 0 } else { 1 }
     }
 }
 
@@ -50,10 +45,7 @@ pub impl Code for XorSum as XorSumCode {
     ghost coding = { λ s. coded (sum-recipe (s .k)) };
 
     fn sizes(&self) -> Sizes {
-        Sizes {
-            k: self.k,
-            m: 1,
-        }
+        Sizes { k: self.k, m: 1 }
     }
 
     fn check(&self, e: usize, given: &[u8], out: &mut [u8]) -> Result<(), Refusal> {

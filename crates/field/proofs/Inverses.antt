@@ -51,7 +51,7 @@ pub mul-inverse : (a : ℕ) → 0 < a → a < 256 → mul a (reciprocal a) ≡ 1
 unfolding reciprocal
 mul-inverse a p h =
     partner-right 256 a (powerOf ((255 - logOf a) % 255)) (power-byte _)
-      (ap (λ x. mul x (powerOf ((255 - logOf a) % 255))) (sym (power-log a p h)) ∙ power-inverse (logOf a) (log-below a h))
+    (ap (λ x. mul x (powerOf ((255 - logOf a) % 255))) (sym (power-log a p h)) ∙ power-inverse (logOf a) (log-below a h))
 
 -- a byte has no other inverse
 pub inverse-only : (a b : ℕ) → 0 < a → a < 256 → b < 256 → mul a b ≡ 1 → b ≡ reciprocal a
@@ -63,7 +63,7 @@ inverse-only a b p ha hb e =
 pub inverse-or-zero : (a : ℕ) → valueOr (cond (eqb a 0) None (Some (reciprocal a))) 0 ≡ reciprocal a
 inverse-or-zero a =
     ⊎-elim (λ e. ap (λ b. valueOr (cond b None (Some (reciprocal a))) 0) (eq-eqb a 0 e) ∙ sym (ap reciprocal e ∙ inverse-zero))
-      (λ ne. ap (λ b. valueOr (cond b None (Some (reciprocal a))) 0) (ne-eqb a 0 ne)) (cases-eq a 0)
+    (λ ne. ap (λ b. valueOr (cond b None (Some (reciprocal a))) 0) (ne-eqb a 0 ne)) (cases-eq a 0)
 
 pub field-laws : Field-laws
 field-laws = record {

@@ -30,11 +30,11 @@ module _ (k m : ℕ) (hk : k ≤ 12) (hm : m ≤ 4) where
       ap (mul s) (through-own every (point k) k (data-points k m hk hm) f (subst (λ n. Polynomial n f) (sym (count-all k)) p) (point k (k + e)))
       ∙ sym (summed-times every s _ k)
       ∙ summed-same every _ _ k (λ d hd t.
-          let v = f (point k d) in
-          let r = reciprocal (scale k d) in
-          let g = gaps k k every (k + e) d in
-          mul-left-comm s v (mul r g) ∙ ap (mul v) (mul-left-comm s r g ∙ ap (mul r) (scale-over k m hk hm e d he hd)) ∙ mul-left-comm v r (coefficient e d)
-          ∙ sym (mul-assoc r v (coefficient e d)))
+      let v = f (point k d) in
+      let r = reciprocal (scale k d) in
+      let g = gaps k k every (k + e) d in
+      mul-left-comm s v (mul r g) ∙ ap (mul v) (mul-left-comm s r g ∙ ap (mul r) (scale-over k m hk hm e d he hd)) ∙ mul-left-comm v r (coefficient e d)
+      ∙ sym (mul-assoc r v (coefficient e d)))
 
   -- a byte, scaled and unscaled
   unscaled : (c x : ℕ) → c < k + m → x < 256 → mul (reciprocal (scale k c)) (mul x (scale k c)) ≡ x
@@ -50,14 +50,14 @@ module _ (k m : ℕ) (hk : k ≤ 12) (hm : m ≤ 4) where
   word-shares : (w : ℕ → ℕ) → ByteWord k m (cauchyRule k) w → (c : ℕ) → c < k + m → share k (of-word w) c ≡ w c
   word-shares w h c hc =
       let of-data : (d : ℕ) → d < k → share k (of-word w) d ≡ w d =
-          λ d hd. ap (mul (reciprocal (scale k d))) (through-at every (point k) k (data-points k m hk hm) (λ j. mul (w j) (scale k j)) d hd refl (mul-byte (w d) (scale k d)))
-            ∙ unscaled d (w d) (omega arith) (h .bytes d (omega arith)) in
+      λ d hd. ap (mul (reciprocal (scale k d))) (through-at every (point k) k (data-points k m hk hm) (λ j. mul (w j) (scale k j)) d hd refl (mul-byte (w d) (scale k d)))
+      ∙ unscaled d (w d) (omega arith) (h .bytes d (omega arith)) in
       ⊎-elim (of-data c)
-        (λ (l : k ≤ c). let q : c ≡ k + (c - k) = omega arith in
-          ap (share k (of-word w)) q ∙ shares-obey (of-word w) (of-word-polynomial w) (c - k) (omega arith)
-          ∙ summed-same every _ _ k (λ d hd t. ap (λ x. mul x (coefficient (c - k) d)) (of-data d hd))
-          ∙ sym (ap w q ∙ h .checks (c - k) (omega arith)))
-        (cases-lt c k)
+      (λ (l : k ≤ c). let q : c ≡ k + (c - k) = omega arith in
+      ap (share k (of-word w)) q ∙ shares-obey (of-word w) (of-word-polynomial w) (c - k) (omega arith)
+      ∙ summed-same every _ _ k (λ d hd t. ap (λ x. mul x (coefficient (c - k) d)) (of-data d hd))
+      ∙ sym (ap w q ∙ h .checks (c - k) (omega arith)))
+      (cases-lt c k)
 
   module _ (chosen : ℕ → Bool) (n : count chosen (k + m) ≡ k) where
     -- the polynomial through the chosen bytes
@@ -71,15 +71,15 @@ module _ (k m : ℕ) (hk : k ≤ 12) (hm : m ≤ 4) where
     recovered-share : (v : ℕ → ℕ) (c : ℕ) → c < k + m → recovered (cauchyWeight k m) (k + m) chosen v c ≡ share k (of-chosen v) c
     recovered-share v c h =
         summed-same chosen _ _ (k + m) (λ i l t.
-          let s = scale k i in
-          let r = reciprocal (scale k c) in
-          let g = gaps k (k + m) chosen c i in
-          let own = gaps k (k + m) chosen i i in
-          ap (mul (v i))
-            (ap (mul (mul s g)) (reciprocal-mul (scale k c) own (scale-nonzero k m hk hm c h) (others-nonzero chosen (point k) (k + m) (k + m) (points k m hk hm) (omega arith) i l))
-              ∙ mul-left-comm (mul s g) r (reciprocal own)
-              ∙ ap (mul r) (mul-assoc s g (reciprocal own) ∙ ap (mul s) (mul-comm g (reciprocal own))))
-          ∙ mul-left-comm (v i) r _ ∙ ap (mul r) (sym (mul-assoc (v i) s _)))
+        let s = scale k i in
+        let r = reciprocal (scale k c) in
+        let g = gaps k (k + m) chosen c i in
+        let own = gaps k (k + m) chosen i i in
+        ap (mul (v i))
+        (ap (mul (mul s g)) (reciprocal-mul (scale k c) own (scale-nonzero k m hk hm c h) (others-nonzero chosen (point k) (k + m) (k + m) (points k m hk hm) (omega arith) i l))
+        ∙ mul-left-comm (mul s g) r (reciprocal own)
+        ∙ ap (mul r) (mul-assoc s g (reciprocal own) ∙ ap (mul s) (mul-comm g (reciprocal own))))
+        ∙ mul-left-comm (v i) r _ ∙ ap (mul r) (sym (mul-assoc (v i) s _)))
         ∙ summed-times chosen (reciprocal (scale k c)) _ (k + m)
 
     -- of a word, the polynomial through any k bytes is the word's own
@@ -88,22 +88,22 @@ module _ (k m : ℕ) (hk : k ≤ 12) (hm : m ≤ 4) where
         let f = of-word w in
         let p = of-word-polynomial w in
         through-same chosen (point k) (k + m) (λ i. mul (w i) (scale k i)) (λ i. f (point k i))
-          (λ i l t. ap (λ y. mul y (scale k i)) (sym (word-shares w h i l)) ∙ mul-comm (share k f i) (scale k i)
-            ∙ mul-left-comm (scale k i) (reciprocal (scale k i)) (f (point k i))
-            ∙ undo (scale k i) (f (point k i)) (scale-nonzero k m hk hm i l) (polynomial-byte k f p (point k i))) x
+        (λ i l t. ap (λ y. mul y (scale k i)) (sym (word-shares w h i l)) ∙ mul-comm (share k f i) (scale k i)
+        ∙ mul-left-comm (scale k i) (reciprocal (scale k i)) (f (point k i))
+        ∙ undo (scale k i) (f (point k i)) (scale-nonzero k m hk hm i l) (polynomial-byte k f p (point k i))) x
         ∙ sym (through-own chosen (point k) (k + m) (points k m hk hm) f (subst (λ d. Polynomial d f) (sym n) p) x)
 
   pub cauchy-recovers : Recovers k m (cauchyRule k) (cauchyWeight k m)
   cauchy-recovers = record {
     has = λ chosen n v c h t b.
-      recovered-share chosen n v c h
-      ∙ ap (mul (reciprocal (scale k c)))
-          (through-at chosen (point k) (k + m) (points k m hk hm) (λ i. mul (v i) (scale k i)) c h t (mul-byte (v c) (scale k c)))
-      ∙ unscaled c (v c) h b;
+        recovered-share chosen n v c h
+        ∙ ap (mul (reciprocal (scale k c)))
+        (through-at chosen (point k) (k + m) (points k m hk hm) (λ i. mul (v i) (scale k i)) c h t (mul-byte (v c) (scale k c)))
+        ∙ unscaled c (v c) h b;
     obeys = λ chosen n v e h.
-      recovered-share chosen n v (k + e) (omega arith)
-      ∙ shares-obey (of-chosen chosen n v) (of-chosen-polynomial chosen n v) e h
-      ∙ summed-same every _ _ k (λ d l t. ap (λ x. mul x (coefficient e d)) (sym (recovered-share chosen n v d (omega arith))));
+        recovered-share chosen n v (k + e) (omega arith)
+        ∙ shares-obey (of-chosen chosen n v) (of-chosen-polynomial chosen n v) e h
+        ∙ summed-same every _ _ k (λ d l t. ap (λ x. mul x (coefficient e d)) (sym (recovered-share chosen n v d (omega arith))));
     gives = λ chosen n w hw c h.
-      recovered-share chosen n w c h ∙ ap (mul (reciprocal (scale k c))) (same-polynomial chosen n w hw (point k c)) ∙ word-shares w hw c h;
+        recovered-share chosen n w c h ∙ ap (mul (reciprocal (scale k c))) (same-polynomial chosen n w hw (point k c)) ∙ word-shares w hw c h;
   }

@@ -29,13 +29,13 @@ module _ (k m : ℕ) (hk : k ≤ 12) (hm : m ≤ 4) where
   points = record {
     bytes = λ i h. ⊎-elim (λ (l : i < k). omega (arith, point-data k i l)) (λ (l : k ≤ i). omega (arith, point-check k i l)) (cases-lt i k);
     differ = λ i j hi hj ne e.
-      ⊎-elim
+        ⊎-elim
         (λ (l : i < k). ⊎-elim
-          (λ (s : j < k). omega (arith, point-data k i l, point-data k j s))
-          (λ (s : k ≤ j). omega (arith, point-data k i l, point-check k j s)) (cases-lt j k))
+        (λ (s : j < k). omega (arith, point-data k i l, point-data k j s))
+        (λ (s : k ≤ j). omega (arith, point-data k i l, point-check k j s)) (cases-lt j k))
         (λ (l : k ≤ i). ⊎-elim
-          (λ (s : j < k). omega (arith, point-check k i l, point-data k j s))
-          (λ (s : k ≤ j). omega (arith, point-check k i l, point-check k j s)) (cases-lt j k))
+        (λ (s : j < k). omega (arith, point-check k i l, point-data k j s))
+        (λ (s : k ≤ j). omega (arith, point-check k i l, point-check k j s)) (cases-lt j k))
         (cases-lt i k);
   }
 
@@ -51,8 +51,8 @@ module _ (k m : ℕ) (hk : k ≤ 12) (hm : m ≤ 4) where
       let gap = bitXor (point k (k + e)) (point k d) in
       let rest = gaps k k every (k + e) d in
       let whole : scale k (k + e) ≡ mul gap rest =
-          multiplied-same (without every (k + e)) every (λ j. bitXor (point k (k + e)) (point k j)) k (λ j l. without-other every (k + e) j (λ q. omega arith))
-          ∙ multiplied-out every d refl (λ j. bitXor (point k (k + e)) (point k j)) k hd in
+      multiplied-same (without every (k + e)) every (λ j. bitXor (point k (k + e)) (point k j)) k (λ j l. without-other every (k + e) j (λ q. omega arith))
+      ∙ multiplied-out every d refl (λ j. bitXor (point k (k + e)) (point k j)) k hd in
       let gap-nonzero : Nonzero gap = points-nonzero (point k) (k + m) points (k + e) d (omega arith) (omega arith) (λ q. omega arith) in
       let whole-nonzero : Nonzero (mul gap rest) = subst Nonzero whole (scale-nonzero (k + e) (omega arith)) in
       let check : point k (k + e) ≡ e = omega (arith, point-check k (k + e) (omega arith)) in

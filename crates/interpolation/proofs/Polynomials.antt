@@ -41,33 +41,42 @@ polynomial-wider (suc n) f p = (p .0, (λ a. let q = p .1 a in (q .0, polynomial
 
 pub polynomial-sum : (n : ℕ) (f h : ℕ → ℕ) → Polynomial n f → Polynomial n h → Polynomial n (λ x. bitXor (f x) (h x))
 polynomial-sum zero f h p q = λ x. ap₂ bitXor (p x) (q x)
-polynomial-sum (suc n) f h p q =
-    ((λ x. xor-lt 8 (f x) (h x) (p .0 x) (q .0 x)),
-    (λ a. let r = p .1 a in let s = q .1 a in
-      ((λ x. bitXor (r .0 x) (s .0 x)), polynomial-sum n (r .0) (s .0) (r .1) (s .1),
-        (λ x. ap₂ bitXor (r .2 x) (s .2 x) ∙ xor-swap (f a) _ (h a) _ ∙ ap (bitXor (bitXor (f a) (h a))) (sym (mul-xor-right (bitXor x a) _ _))))))
+polynomial-sum (suc n) f h p q = (
+  (λ x. xor-lt 8 (f x) (h x) (p .0 x) (q .0 x)),
+  (λ a. let r = p .1 a in let s = q .1 a in (
+    (λ x. bitXor (r .0 x) (s .0 x)),
+    polynomial-sum n (r .0) (s .0) (r .1) (s .1),
+    (λ x. ap₂ bitXor (r .2 x) (s .2 x) ∙ xor-swap (f a) _ (h a) _ ∙ ap (bitXor (bitXor (f a) (h a))) (sym (mul-xor-right (bitXor x a) _ _))),
+  )),
+)
 
 pub polynomial-times : (n c : ℕ) (f : ℕ → ℕ) → Polynomial n f → Polynomial n (λ x. mul c (f x))
 polynomial-times zero c f p = λ x. ap (mul c) (p x) ∙ mul-zero c
-polynomial-times (suc n) c f p =
-    ((λ x. mul-byte c (f x)),
-    (λ a. let r = p .1 a in
-      ((λ x. mul c (r .0 x)), polynomial-times n c (r .0) (r .1),
-        (λ x. ap (mul c) (r .2 x) ∙ mul-xor-right c (f a) _ ∙ ap (bitXor (mul c (f a))) (mul-left-comm c (bitXor x a) (r .0 x))))))
+polynomial-times (suc n) c f p = (
+  (λ x. mul-byte c (f x)),
+  (λ a. let r = p .1 a in (
+    (λ x. mul c (r .0 x)),
+    polynomial-times n c (r .0) (r .1),
+    (λ x. ap (mul c) (r .2 x) ∙ mul-xor-right c (f a) _ ∙ ap (bitXor (mul c (f a))) (mul-left-comm c (bitXor x a) (r .0 x))),
+  )),
+)
 
 -- times x + b, which is (x + a) + (a + b)
 polynomial-factor : (n b : ℕ) (f : ℕ → ℕ) → Polynomial n f → Polynomial (suc n) (λ x. mul (f x) (bitXor x b))
 polynomial-factor zero b f p =
     polynomial-constant (λ x. mul (f x) (bitXor x b)) 0 (lit< tt) (λ x. ap (λ y. mul y (bitXor x b)) (p x) ∙ zero-mul (bitXor x b))
-polynomial-factor (suc n) b f p =
-    ((λ x. mul-byte (f x) (bitXor x b)),
-    (λ a. let r = p .1 a in
-      ((λ x. bitXor (f x) (mul (bitXor a b) (r .0 x))),
-        polynomial-sum (suc n) f (λ x. mul (bitXor a b) (r .0 x)) p (polynomial-wider n _ (polynomial-times n (bitXor a b) (r .0) (r .1))),
-        (λ x. product a x (r .0 x) (r .2 x)))))
+polynomial-factor (suc n) b f p = (
+  (λ x. mul-byte (f x) (bitXor x b)),
+  (λ a. let r = p .1 a in (
+    (λ x. bitXor (f x) (mul (bitXor a b) (r .0 x))),
+    polynomial-sum (suc n) f (λ x. mul (bitXor a b) (r .0 x)) p (polynomial-wider n _ (polynomial-times n (bitXor a b) (r .0) (r .1))),
+    (λ x. product a x (r .0 x) (r .2 x)),
+  )),
+)
   where
     apart : (x a : ℕ) → bitXor x b ≡ bitXor (bitXor x a) (bitXor a b)
     apart x a = sym (xor-assoc x a (bitXor a b) ∙ ap (bitXor x) (xor-back a b))
+
     product : (a x y : ℕ) → f x ≡ bitXor (f a) (mul (bitXor x a) y)
         → mul (f x) (bitXor x b) ≡ bitXor (mul (f a) (bitXor a b)) (mul (bitXor x a) (bitXor (f x) (mul (bitXor a b) y)))
     product a x y e =
@@ -77,8 +86,8 @@ polynomial-factor (suc n) b f p =
         ∙ ap₂ bitXor (ap (λ z. mul z w) e ∙ mul-xor-left (f a) (mul u y) w) (mul-comm (f x) u)
         ∙ xor-assoc (mul (f a) w) (mul (mul u y) w) (mul u (f x))
         ∙ ap (bitXor (mul (f a) w))
-            (xor-comm (mul (mul u y) w) (mul u (f x)) ∙ ap (bitXor (mul u (f x))) (mul-comm (mul u y) w ∙ mul-left-comm w u y)
-              ∙ sym (mul-xor-right u (f x) (mul w y)))
+        (xor-comm (mul (mul u y) w) (mul u (f x)) ∙ ap (bitXor (mul u (f x))) (mul-comm (mul u y) w ∙ mul-left-comm w u y)
+        ∙ sym (mul-xor-right u (f x) (mul w y)))
 
 pub polynomial-summed : (d : ℕ) (chosen : ℕ → Bool) (f : ℕ → ℕ → ℕ) (n : ℕ) → ((i : ℕ) → i < n → chosen i ≡ true → Polynomial d (λ x. f x i))
     → Polynomial d (λ x. summed chosen (f x) n)
@@ -87,7 +96,7 @@ polynomial-summed d chosen f zero h = polynomial-zero d
 polynomial-summed d chosen f (suc n) h =
     let below : Polynomial d (λ x. summed chosen (f x) n) = polynomial-summed d chosen f n (λ i l. h i (omega arith)) in
     (elim (chosen n) as (λ b. (b ≡ true → Polynomial d (λ x. f x n)) → Polynomial d (λ x. cond b (bitXor (summed chosen (f x) n) (f x n)) (summed chosen (f x) n)))
-      [ true ↦ λ k. polynomial-sum d _ _ below (k refl) | false ↦ λ k. below ]) (h n (omega arith))
+    [ true ↦ λ k. polynomial-sum d _ _ below (k refl) | false ↦ λ k. below ]) (h n (omega arith))
 
 pub polynomial-multiplied : (chosen : ℕ → Bool) (point : ℕ → ℕ) (n : ℕ)
     → Polynomial (suc (count chosen n)) (λ x. multiplied chosen (λ j. bitXor x (point j)) n)
@@ -96,5 +105,5 @@ polynomial-multiplied chosen point zero = polynomial-constant (λ x. 1) 1 (lit< 
 polynomial-multiplied chosen point (suc n) =
     let below : Polynomial (suc (count chosen n)) (λ x. multiplied chosen (λ j. bitXor x (point j)) n) = polynomial-multiplied chosen point n in
     elim (chosen n) as (λ b. Polynomial (suc (cond b (suc (count chosen n)) (count chosen n)))
-        (λ x. cond b (mul (multiplied chosen (λ j. bitXor x (point j)) n) (bitXor x (point n))) (multiplied chosen (λ j. bitXor x (point j)) n)))
-      [ true ↦ polynomial-factor (suc (count chosen n)) (point n) _ below | false ↦ below ]
+    (λ x. cond b (mul (multiplied chosen (λ j. bitXor x (point j)) n) (bitXor x (point n))) (multiplied chosen (λ j. bitXor x (point j)) n)))
+    [ true ↦ polynomial-factor (suc (count chosen n)) (point n) _ below | false ↦ below ]

@@ -48,12 +48,12 @@ unfolding multiplied
 multiplied-zero chosen f zero a l t z = absurd (omega arith)
 multiplied-zero chosen f (suc n) a l t z =
     ⊎-elim
-      (λ (e : n ≡ a). cond-true (chosen n) _ _ (ap chosen e ∙ t) ∙ ap (mul (multiplied chosen f n)) (ap f e ∙ z) ∙ mul-zero _)
-      (λ (ne : n ≡ a → ⊥).
-        let below : multiplied chosen f n ≡ 0 = multiplied-zero chosen f n a (omega arith) t z in
-        elim (chosen n) as (λ b. cond b (mul (multiplied chosen f n) (f n)) (multiplied chosen f n) ≡ 0)
-          [ true ↦ ap (λ x. mul x (f n)) below ∙ zero-mul (f n) | false ↦ below ])
-      (cases-eq n a)
+    (λ (e : n ≡ a). cond-true (chosen n) _ _ (ap chosen e ∙ t) ∙ ap (mul (multiplied chosen f n)) (ap f e ∙ z) ∙ mul-zero _)
+    (λ (ne : n ≡ a → ⊥).
+    let below : multiplied chosen f n ≡ 0 = multiplied-zero chosen f n a (omega arith) t z in
+    elim (chosen n) as (λ b. cond b (mul (multiplied chosen f n) (f n)) (multiplied chosen f n) ≡ 0)
+    [ true ↦ ap (λ x. mul x (f n)) below ∙ zero-mul (f n) | false ↦ below ])
+    (cases-eq n a)
 
 pub multiplied-nonzero : (chosen : ℕ → Bool) (f : ℕ → ℕ) (n : ℕ) → ((i : ℕ) → i < n → chosen i ≡ true → Nonzero (f i)) → Nonzero (multiplied chosen f n)
 unfolding multiplied
@@ -61,7 +61,7 @@ multiplied-nonzero chosen f zero h = (lit< tt, lit< tt)
 multiplied-nonzero chosen f (suc n) h =
     let below : Nonzero (multiplied chosen f n) = multiplied-nonzero chosen f n (λ i l. h i (omega arith)) in
     (elim (chosen n) as (λ b. (b ≡ true → Nonzero (f n)) → Nonzero (cond b (mul (multiplied chosen f n) (f n)) (multiplied chosen f n)))
-      [ true ↦ λ k. mul-nonzero _ _ below (k refl) | false ↦ λ k. below ]) (h n (omega arith))
+    [ true ↦ λ k. mul-nonzero _ _ below (k refl) | false ↦ λ k. below ]) (h n (omega arith))
 
 module _ (chosen : ℕ → Bool) (a : ℕ) (t : chosen a ≡ true) where
   -- one factor taken out
@@ -70,28 +70,28 @@ module _ (chosen : ℕ → Bool) (a : ℕ) (t : chosen a ≡ true) where
   multiplied-out f zero l = absurd (omega arith)
   multiplied-out f (suc n) l =
       ⊎-elim
-        (λ (e : n ≡ a). cond-true (chosen n) _ _ (ap chosen e ∙ t) ∙ mul-comm _ _
-          ∙ ap₂ mul (ap f e) (multiplied-same chosen (without chosen a) f n (λ i k. sym (without-other chosen a i (λ q. omega arith)))
-            ∙ sym (cond-false (without chosen a n) _ _ (without-itself chosen a n e))))
-        (λ (ne : n ≡ a → ⊥).
-          let below : multiplied chosen f n ≡ mul (f a) (multiplied (without chosen a) f n) = multiplied-out f n (omega arith) in
-          (elim (chosen n) as (λ b. cond b (mul (multiplied chosen f n) (f n)) (multiplied chosen f n)
-              ≡ mul (f a) (cond b (mul (multiplied (without chosen a) f n) (f n)) (multiplied (without chosen a) f n)))
-            [ true ↦ ap (λ x. mul x (f n)) below ∙ mul-assoc _ _ _ | false ↦ below ])
-          ∙ ap (λ b. mul (f a) (cond b (mul (multiplied (without chosen a) f n) (f n)) (multiplied (without chosen a) f n))) (sym (without-other chosen a n ne)))
-        (cases-eq n a)
+      (λ (e : n ≡ a). cond-true (chosen n) _ _ (ap chosen e ∙ t) ∙ mul-comm _ _
+      ∙ ap₂ mul (ap f e) (multiplied-same chosen (without chosen a) f n (λ i k. sym (without-other chosen a i (λ q. omega arith)))
+      ∙ sym (cond-false (without chosen a n) _ _ (without-itself chosen a n e))))
+      (λ (ne : n ≡ a → ⊥).
+      let below : multiplied chosen f n ≡ mul (f a) (multiplied (without chosen a) f n) = multiplied-out f n (omega arith) in
+      (elim (chosen n) as (λ b. cond b (mul (multiplied chosen f n) (f n)) (multiplied chosen f n)
+      ≡ mul (f a) (cond b (mul (multiplied (without chosen a) f n) (f n)) (multiplied (without chosen a) f n)))
+      [ true ↦ ap (λ x. mul x (f n)) below ∙ mul-assoc _ _ _ | false ↦ below ])
+      ∙ ap (λ b. mul (f a) (cond b (mul (multiplied (without chosen a) f n) (f n)) (multiplied (without chosen a) f n))) (sym (without-other chosen a n ne)))
+      (cases-eq n a)
 
   pub count-out : (n : ℕ) → a < n → count chosen n ≡ suc (count (without chosen a) n)
   count-out zero l = absurd (omega arith)
   count-out (suc n) l =
       ⊎-elim
-        (λ (e : n ≡ a). cond-true (chosen n) _ _ (ap chosen e ∙ t)
-          ∙ ap suc (count-same chosen (without chosen a) n (λ i k. sym (without-other chosen a i (λ q. omega arith)))
-            ∙ sym (cond-false (without chosen a n) _ _ (without-itself chosen a n e))))
-        (λ (ne : n ≡ a → ⊥).
-          let below : count chosen n ≡ suc (count (without chosen a) n) = count-out n (omega arith) in
-          (elim (chosen n) as (λ b. cond b (suc (count chosen n)) (count chosen n)
-              ≡ suc (cond b (suc (count (without chosen a) n)) (count (without chosen a) n)))
-            [ true ↦ ap suc below | false ↦ below ])
-          ∙ ap (λ b. suc (cond b (suc (count (without chosen a) n)) (count (without chosen a) n))) (sym (without-other chosen a n ne)))
-        (cases-eq n a)
+      (λ (e : n ≡ a). cond-true (chosen n) _ _ (ap chosen e ∙ t)
+      ∙ ap suc (count-same chosen (without chosen a) n (λ i k. sym (without-other chosen a i (λ q. omega arith)))
+      ∙ sym (cond-false (without chosen a n) _ _ (without-itself chosen a n e))))
+      (λ (ne : n ≡ a → ⊥).
+      let below : count chosen n ≡ suc (count (without chosen a) n) = count-out n (omega arith) in
+      (elim (chosen n) as (λ b. cond b (suc (count chosen n)) (count chosen n)
+      ≡ suc (cond b (suc (count (without chosen a) n)) (count (without chosen a) n)))
+      [ true ↦ ap suc below | false ↦ below ])
+      ∙ ap (λ b. suc (cond b (suc (count (without chosen a) n)) (count (without chosen a) n))) (sym (without-other chosen a n ne)))
+      (cases-eq n a)

@@ -36,8 +36,8 @@ module _ (chosen : ℕ → Bool) (point : ℕ → ℕ) where
       let g = r .0 in
       let divided : (y : ℕ) → f y ≡ mul (bitXor y (point n)) (g y) = λ y. r .2 y ∙ ap (λ u. bitXor u (mul (bitXor y (point n)) (g y))) (w refl) in
       let zeros : Zeros g n =
-          λ i l t. zero-factor (bitXor (point i) (point n)) (g (point i)) (points-nonzero point (suc n) ps i n (omega arith) (omega arith) (λ e. omega arith))
-            (polynomial-byte (count chosen n) g (r .1) (point i)) (sym (divided (point i)) ∙ z i l t) in
+      λ i l t. zero-factor (bitXor (point i) (point n)) (g (point i)) (points-nonzero point (suc n) ps i n (omega arith) (omega arith) (λ e. omega arith))
+      (polynomial-byte (count chosen n) g (r .1) (point i)) (sym (divided (point i)) ∙ z i l t) in
       divided x ∙ ap (mul (bitXor x (point n))) (below g (r .1) zeros x) ∙ mul-zero (bitXor x (point n))
 
   vanishes : (n : ℕ) → Points point n → (f : ℕ → ℕ) → Polynomial (count chosen n) f → Zeros f n → (x : ℕ) → f x ≡ 0
@@ -50,4 +50,4 @@ module _ (chosen : ℕ → Bool) (point : ℕ → ℕ) where
       → ((i : ℕ) → i < n → chosen i ≡ true → f (point i) ≡ h (point i)) → (x : ℕ) → f x ≡ h x
   polynomial-same n ps f h p q e x =
       xor-equal (f x) (h x) (vanishes n ps (λ y. bitXor (f y) (h y)) (polynomial-sum (count chosen n) f h p q)
-        (λ i l t. ap (bitXor (f (point i))) (sym (e i l t)) ∙ xor-self (f (point i))) x)
+      (λ i l t. ap (bitXor (f (point i))) (sym (e i l t)) ∙ xor-self (f (point i))) x)

@@ -30,8 +30,8 @@ pub reciprocal-mul : (a b : ℕ) → Nonzero a → Nonzero b → reciprocal (mul
 reciprocal-mul a b ha hb =
     let p = mul-nonzero a b ha hb in
     sym (inverse-only (mul a b) (mul (reciprocal a) (reciprocal b)) (p .0) (p .1) (mul-byte _ _)
-      (mul-assoc a b _ ∙ ap (mul a) (mul-left-comm b (reciprocal a) (reciprocal b) ∙ ap (mul (reciprocal a)) (inverts b hb) ∙ mul-one _ (inverse-byte a))
-        ∙ inverts a ha))
+    (mul-assoc a b _ ∙ ap (mul a) (mul-left-comm b (reciprocal a) (reciprocal b) ∙ ap (mul (reciprocal a)) (inverts b hb) ∙ mul-one _ (inverse-byte a))
+    ∙ inverts a ha))
 
 pub quotient : (a b : ℕ) → Nonzero a → Nonzero (mul a b) → mul (reciprocal (mul a b)) b ≡ reciprocal a
 quotient a b ha h =

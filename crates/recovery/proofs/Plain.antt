@@ -23,11 +23,11 @@ pub copy-recovers : (m : ℕ) → Recovers 1 m copyRule copyWeight
 copy-recovers m = record {
   has = λ chosen n v c l t b.
       summed-one chosen _ (v c) (1 + m) n
-        (λ i li ti. ap (λ x. mul (v x) 1) (count-only chosen (1 + m) n i c li l ti t) ∙ mul-one (v c) b);
+      (λ i li ti. ap (λ x. mul (v x) 1) (count-only chosen (1 + m) n i c li l ti t) ∙ mul-one (v c) b);
   obeys = λ chosen n v e l. refl;
   gives = λ chosen n w word c l.
       summed-one chosen _ (w c) (1 + m) n
-        (λ i li ti. mul-one (w i) (word .bytes i li) ∙ all-same w word i li ∙ sym (all-same w word c l));
+      (λ i li ti. mul-one (w i) (word .bytes i li) ∙ all-same w word i li ∙ sym (all-same w word c l));
 }
   where
     all-same : (w : ℕ → ℕ) → ByteWord 1 m copyRule w → (i : ℕ) → i < 1 + m → w i ≡ w 0
@@ -46,7 +46,7 @@ module _ (k : ℕ) (chosen : ℕ → Bool) (enough : count chosen (k + 1) ≡ k)
     at-chosen c l t =
         ap (λ b. summed chosen (λ i. mul (v i) (cond b (cond (eqb c i) 1 0) 1)) (k + 1)) t
         ∙ summed-at chosen (λ i. mul (v i) (cond (eqb c i) 1 0)) (k + 1) c l t
-            (λ i li ti ne. ap (λ b. mul (v i) (cond b 1 0)) (ne-eqb c i (λ q. ne (sym q))) ∙ mul-zero (v i))
+        (λ i li ti ne. ap (λ b. mul (v i) (cond b 1 0)) (ne-eqb c i (λ q. ne (sym q))) ∙ mul-zero (v i))
         ∙ ap (λ b. mul (v c) (cond b 1 0)) (eq-eqb c c refl)
 
     at-other : (c : ℕ) → chosen c ≡ false → recovered sumWeight (k + 1) chosen v c ≡ total
@@ -59,8 +59,8 @@ module _ (k : ℕ) (chosen : ℕ → Bool) (enough : count chosen (k + 1) ≡ k)
     all-zero =
         summed-split chosen (recovered sumWeight (k + 1) chosen v) (k + 1)
         ∙ ap₂ bitXor
-            (summed-same chosen _ (λ i. mul (v i) 1) (k + 1) at-chosen)
-            (summed-one (λ i. not (chosen i)) _ total (k + 1) one-left (λ i l t. at-other i (not-true (chosen i) t)))
+        (summed-same chosen _ (λ i. mul (v i) 1) (k + 1) at-chosen)
+        (summed-one (λ i. not (chosen i)) _ total (k + 1) one-left (λ i l t. at-other i (not-true (chosen i) t)))
         ∙ xor-self total
 
   -- a byte of a word that is not chosen is the sum of the others
@@ -69,10 +69,10 @@ module _ (k : ℕ) (chosen : ℕ → Bool) (enough : count chosen (k + 1) ≡ k)
   other-of-word w word zeros c l t =
       summed-same chosen _ w (k + 1) (λ i li ti. mul-one (w i) (word .bytes i li))
       ∙ xor-equal _ (w c)
-        (ap (bitXor (summed chosen w (k + 1)))
-            (sym (summed-one (λ i. not (chosen i)) w (w c) (k + 1) one-left
-              (λ i li ti. ap w (count-only (λ i. not (chosen i)) (k + 1) one-left i c li l ti (not-from-false (chosen c) t)))))
-        ∙ sym (summed-split chosen w (k + 1)) ∙ zeros)
+      (ap (bitXor (summed chosen w (k + 1)))
+      (sym (summed-one (λ i. not (chosen i)) w (w c) (k + 1) one-left
+      (λ i li ti. ap w (count-only (λ i. not (chosen i)) (k + 1) one-left i c li l ti (not-from-false (chosen c) t)))))
+      ∙ sym (summed-split chosen w (k + 1)) ∙ zeros)
 
 -- the data and the check together
 with-check : (f : ℕ → ℕ) (k : ℕ) → summed every f (k + 1) ≡ bitXor (summed every f k) (f k)
@@ -91,5 +91,5 @@ sum-recovers k = record {
   gives = λ chosen n w word c l.
       let zeros = with-check w k ∙ ap (bitXor (summed every w k)) (ap w (sym (at-zero k 0 (omega arith))) ∙ word .checks 0 (omega arith)) ∙ xor-self (summed every w k) in
       ⊎-elim (λ t. at-chosen k chosen n w c l t ∙ mul-one (w c) (word .bytes c l))
-        (λ t. at-other k chosen n w c t ∙ other-of-word k chosen n w word zeros c l t) (cases-bool (chosen c));
+      (λ t. at-other k chosen n w c t ∙ other-of-word k chosen n w word zeros c l t) (cases-bool (chosen c));
 }

@@ -31,7 +31,7 @@ module _ (chosen : ℕ → Bool) where
   summed-same f g (suc n) h =
       let ih = summed-same f g n (λ i l. h i (omega arith)) in
       (elim (chosen n) as (λ b. (b ≡ true → f n ≡ g n) → cond b (bitXor (summed chosen f n) (f n)) (summed chosen f n) ≡ cond b (bitXor (summed chosen g n) (g n)) (summed chosen g n))
-        [ true ↦ λ e. ap₂ bitXor ih (e refl) | false ↦ λ e. ih ]) (h n (omega arith))
+      [ true ↦ λ e. ap₂ bitXor ih (e refl) | false ↦ λ e. ih ]) (h n (omega arith))
 
   pub summed-byte : (f : ℕ → ℕ) (n : ℕ) → ((i : ℕ) → i < n → f i < 256) → summed chosen f n < 256
   unfolding summed
@@ -39,7 +39,7 @@ module _ (chosen : ℕ → Bool) where
   summed-byte f (suc n) h =
       let ih = summed-byte f n (λ i l. h i (omega arith)) in
       elim (chosen n) as (λ b. cond b (bitXor (summed chosen f n) (f n)) (summed chosen f n) < 256)
-        [ true ↦ xor-lt 8 _ _ ih (h n (omega arith)) | false ↦ ih ]
+      [ true ↦ xor-lt 8 _ _ ih (h n (omega arith)) | false ↦ ih ]
 
   -- a sum of nothing
   pub summed-none : (f : ℕ → ℕ) (n : ℕ) → count chosen n ≡ 0 → summed chosen f n ≡ 0
@@ -47,16 +47,17 @@ module _ (chosen : ℕ → Bool) where
   summed-none f zero c = refl
   summed-none f (suc n) c =
       (elim (chosen n) as (λ b. cond b (suc (count chosen n)) (count chosen n) ≡ 0 → cond b (bitXor (summed chosen f n) (f n)) (summed chosen f n) ≡ 0)
-        [ true ↦ λ d. absurd (omega arith) | false ↦ λ d. summed-none f n d ]) c
+      [ true ↦ λ d. absurd (omega arith) | false ↦ λ d. summed-none f n d ]) c
 
   -- a sum of one
   pub summed-one : (f : ℕ → ℕ) (x n : ℕ) → count chosen n ≡ 1 → ((i : ℕ) → i < n → chosen i ≡ true → f i ≡ x) → summed chosen f n ≡ x
   unfolding summed
   summed-one f x zero c h = absurd (omega arith)
   summed-one f x (suc n) c h =
-      (elim (chosen n) as (λ b. (b ≡ true → f n ≡ x) → cond b (suc (count chosen n)) (count chosen n) ≡ 1 → cond b (bitXor (summed chosen f n) (f n)) (summed chosen f n) ≡ x)
-        [ true ↦ λ e d. ap₂ bitXor (summed-none f n (omega arith)) (e refl)
-        | false ↦ λ e d. summed-one f x n d (λ i l. h i (omega arith)) ]) (h n (omega arith)) c
+      (elim (chosen n) as (λ b. (b ≡ true → f n ≡ x) → cond b (suc (count chosen n)) (count chosen n) ≡ 1 → cond b (bitXor (summed chosen f n) (f n)) (summed chosen f n) ≡ x) [
+        | true ↦ λ e d. ap₂ bitXor (summed-none f n (omega arith)) (e refl)
+        | false ↦ λ e d. summed-one f x n d (λ i l. h i (omega arith))
+      ]) (h n (omega arith)) c
 
   pub summed-zero : (f : ℕ → ℕ) (n : ℕ) → ((i : ℕ) → i < n → chosen i ≡ true → f i ≡ 0) → summed chosen f n ≡ 0
   unfolding summed
@@ -64,7 +65,7 @@ module _ (chosen : ℕ → Bool) where
   summed-zero f (suc n) h =
       let ih = summed-zero f n (λ i l. h i (omega arith)) in
       (elim (chosen n) as (λ b. (b ≡ true → f n ≡ 0) → cond b (bitXor (summed chosen f n) (f n)) (summed chosen f n) ≡ 0)
-        [ true ↦ λ e. ap₂ bitXor ih (e refl) | false ↦ λ e. ih ]) (h n (omega arith))
+      [ true ↦ λ e. ap₂ bitXor ih (e refl) | false ↦ λ e. ih ]) (h n (omega arith))
 
   -- where all terms but one are 0
   pub summed-at : (f : ℕ → ℕ) (n a : ℕ) → a < n → chosen a ≡ true
@@ -73,13 +74,13 @@ module _ (chosen : ℕ → Bool) where
   summed-at f zero a l t h = absurd (omega arith)
   summed-at f (suc n) a l t h =
       ⊎-elim
-        (λ (e : n ≡ a). cond-true (chosen n) _ _ (ap chosen e ∙ t)
-          ∙ ap₂ bitXor (summed-zero f n (λ i k c. h i (omega arith) c (λ q. omega arith))) (ap f e))
-        (λ (ne : n ≡ a → ⊥).
-          let below : summed chosen f n ≡ f a = summed-at f n a (omega arith) t (λ i k. h i (omega arith)) in
-          (elim (chosen n) as (λ b. (b ≡ true → f n ≡ 0) → cond b (bitXor (summed chosen f n) (f n)) (summed chosen f n) ≡ f a)
-            [ true ↦ λ e. ap (bitXor (summed chosen f n)) (e refl) ∙ xor-zero-r _ ∙ below | false ↦ λ e. below ]) (λ c. h n (omega arith) c ne))
-        (cases-eq n a)
+      (λ (e : n ≡ a). cond-true (chosen n) _ _ (ap chosen e ∙ t)
+      ∙ ap₂ bitXor (summed-zero f n (λ i k c. h i (omega arith) c (λ q. omega arith))) (ap f e))
+      (λ (ne : n ≡ a → ⊥).
+      let below : summed chosen f n ≡ f a = summed-at f n a (omega arith) t (λ i k. h i (omega arith)) in
+      (elim (chosen n) as (λ b. (b ≡ true → f n ≡ 0) → cond b (bitXor (summed chosen f n) (f n)) (summed chosen f n) ≡ f a)
+      [ true ↦ λ e. ap (bitXor (summed chosen f n)) (e refl) ∙ xor-zero-r _ ∙ below | false ↦ λ e. below ]) (λ c. h n (omega arith) c ne))
+      (cases-eq n a)
 
   -- a factor taken out
   pub summed-times : (a : ℕ) (f : ℕ → ℕ) (n : ℕ) → summed chosen (λ i. mul a (f i)) n ≡ mul a (summed chosen f n)
@@ -87,8 +88,8 @@ module _ (chosen : ℕ → Bool) where
   summed-times a f zero = sym (mul-zero a)
   summed-times a f (suc n) =
       elim (chosen n) as (λ b. cond b (bitXor (summed chosen (λ i. mul a (f i)) n) (mul a (f n))) (summed chosen (λ i. mul a (f i)) n)
-          ≡ mul a (cond b (bitXor (summed chosen f n) (f n)) (summed chosen f n)))
-        [ true ↦ ap (λ x. bitXor x (mul a (f n))) (summed-times a f n) ∙ sym (mul-xor-right a _ _) | false ↦ summed-times a f n ]
+      ≡ mul a (cond b (bitXor (summed chosen f n) (f n)) (summed chosen f n)))
+      [ true ↦ ap (λ x. bitXor x (mul a (f n))) (summed-times a f n) ∙ sym (mul-xor-right a _ _) | false ↦ summed-times a f n ]
 
   -- what is chosen and what is not
   pub summed-split : (f : ℕ → ℕ) (n : ℕ) → summed every f n ≡ bitXor (summed chosen f n) (summed (λ i. not (chosen i)) f n)
@@ -99,4 +100,4 @@ module _ (chosen : ℕ → Bool) where
       let b = summed (λ i. not (chosen i)) f n in
       ap (λ x. bitXor x (f n)) (summed-split f n)
       ∙ (elim (chosen n) as (λ t. bitXor (bitXor a b) (f n) ≡ bitXor (cond t (bitXor a (f n)) a) (cond (not t) (bitXor b (f n)) b))
-        [ true ↦ xor-assoc a b (f n) ∙ ap (bitXor a) (xor-comm b (f n)) ∙ sym (xor-assoc a (f n) b) | false ↦ xor-assoc a b (f n) ])
+      [ true ↦ xor-assoc a b (f n) ∙ ap (bitXor a) (xor-comm b (f n)) ∙ sym (xor-assoc a (f n) b) | false ↦ xor-assoc a b (f n) ])

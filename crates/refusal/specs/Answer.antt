@@ -25,3 +25,13 @@ unless (Some f) was becomes = was
 pub record Turns {S : Type 0} (f : Option Refusal) (was becomes : S) (r : Result Unit Refusal) (is : S) : Type 0 where
   pub answer : r ≡ outcome f tt
   pub leaves : is ≡ unless f was becomes
+
+-- what a call leaves, by a property: as it was where it is refused, else something with the property
+abbrev pub Left : {S : Type 0} → Option Refusal → S → (S → Type 0) → S → Type 0
+Left None was P is = P is
+Left (Some f) was P is = is ≡ was
+
+-- a call that is refused as f says, and else leaves something with the property
+pub record Does {S : Type 0} (f : Option Refusal) (was : S) (P : S → Type 0) (r : Result Unit Refusal) (is : S) : Type 0 where
+  pub answer : r ≡ outcome f tt
+  pub leaves : Left f was P is

@@ -21,7 +21,7 @@ pub same-part : (xs ys : List ℕ) (c : ℕ) → length xs ≡ length ys → ((j
     → block-at xs c ≡ block-at ys c
 same-part xs ys c len h =
     ext-getD 0 (block-at xs c) (block-at ys c) (simp (length-take, length-drop) (ap (λ n. min 64 (n - c * 64)) len))
-      (λ j l. let l64 : j < 64 = omega (arith, simp length-take at l) in block-byte xs c j l64 ∙ h j l64 ∙ sym (block-byte ys c j l64))
+    (λ j l. let l64 : j < 64 = omega (arith, simp length-take at l) in block-byte xs c j l64 ∙ h j l64 ∙ sym (block-byte ys c j l64))
 
 -- a block that is written byte by byte
 pub written-here : (xs block : List ℕ) (i : ℕ) → length block ≡ 64 → i * 64 + 64 ≤ length xs
@@ -35,14 +35,14 @@ pub written-others : (xs ys : List ℕ) (i : ℕ) → length xs ≡ length ys
     → (c : ℕ) → (c ≡ i → ⊥) → block-at xs c ≡ block-at ys c
 written-others xs ys i len before after c ne =
     same-part xs ys c len
-      (λ j l. ⊎-elim (λ (b : c < i). before (c * 64 + j) (omega arith)) (λ (b : i ≤ c). after (c * 64 + j) (omega arith)) (cases-lt c i))
+    (λ j l. ⊎-elim (λ (b : c < i). before (c * 64 + j) (omega arith)) (λ (b : i ≤ c). after (c * 64 + j) (omega arith)) (cases-lt c i))
 
 -- the first n blocks, where their bytes are the same
 pub front-block : (xs ys : List ℕ) (i n : ℕ) → i < n → n * 64 ≤ length xs → n * 64 ≤ length ys
     → ((j : ℕ) → j < n * 64 → getD xs j 0 ≡ getD ys j 0) → block-at xs i ≡ block-at ys i
 front-block xs ys i n l rx ry h =
     same-block (block-at xs i) (block-at ys i) (block-size xs i n l rx) (block-size ys i n l ry)
-      (λ j lj. block-byte xs i j lj ∙ h (i * 64 + j) (omega arith) ∙ sym (block-byte ys i j lj))
+    (λ j lj. block-byte xs i j lj ∙ h (i * 64 + j) (omega arith) ∙ sym (block-byte ys i j lj))
 
 -- and their bytes, where the blocks are
 pub front-byte : (xs ys : List ℕ) (n : ℕ) → ((i : ℕ) → i < n → block-at xs i ≡ block-at ys i) → (j : ℕ) → j < n * 64 → getD xs j 0 ≡ getD ys j 0
@@ -57,7 +57,7 @@ pub one-more : (xs ys : List ℕ) (w : Blocks) (i : ℕ) → ((c : ℕ) → (c �
     → block-at ys i ≡ w i → Stores i xs w → Stores (i + 1) ys w
 one-more xs ys w i others here before x l =
     ⊎-elim (λ (e : x ≡ i). subst (λ y. block-at ys y ≡ w y) (sym e) here)
-      (λ (ne : x ≡ i → ⊥). others x ne ∙ before x (omega arith)) (cases-eq x i)
+    (λ (ne : x ≡ i → ⊥). others x ne ∙ before x (omega arith)) (cases-eq x i)
 
 -- what the marks leave does not change where a missing block is written
 pub still-left : (marks : List ℕ) (n : ℕ) (xs ys : List ℕ) (w : Blocks) (i : ℕ) → marks-held marks i ≡ false
@@ -71,4 +71,4 @@ front-part xs part room h =
     let zero-off : length part - 0 ≡ length part = omega arith in
     ap (λ n. take n xs) zero-off
     ∙ ext-getD 0 (take (length part) xs) part (length-take-le (length part) xs room)
-        (λ j l. let lp : j < length part = omega (arith, simp length-take at l) in getD-take (length part) xs j 0 lp ∙ h j lp)
+    (λ j l. let lp : j < length part = omega (arith, simp length-take at l) in getD-take (length part) xs j 0 lp ∙ h j lp)

@@ -1,8 +1,8 @@
 -- Stripes: the blocks of a word, one after the other, and what comes back of a file that is cut into them.
-use mathlib.Core.Bool.{true, not}
+use mathlib.Core.Bool.{true, not, _||_}
 use mathlib.Core.List.{List}
 use mathlib.Core.Path.{_≡_}
-use Prim.Native.Nat.{ℕ, _+_, _<_}
+use Prim.Native.Nat.{ℕ, _+_, _*_, _<_}
 use lib.Dec.{eqb, ltb}
 use lib.ListN.{length}
 use Rattle.std.specs.declared.option.Option.{Option}
@@ -25,7 +25,21 @@ Stores n stripe w = (i : ℕ) → i < n → block-at stripe i ≡ w i
 abbrev pub Leaves : List ℕ → ℕ → List ℕ → Blocks → Type 0
 Leaves marks n stripe w = (i : ℕ) → i < n → marks-held marks i ≡ true → block-at stripe i ≡ w i
 
--- a mark for each block of a stripe, and enough of them held
+-- the word of some data is laid into a stripe: the lengths have to be right
+abbrev pub protect-refusal : Coding → ℕ → ℕ → Option Refusal
+protect-refusal c given stripe = refuse (not (eqb given (c .k * 64)) || not (eqb stripe ((c .k + c .m) * 64))) Length None
+
+-- a stripe is repaired: the lengths have to be right, and k blocks held
+abbrev pub repair-refusal : Coding → List ℕ → ℕ → Option Refusal
+repair-refusal c marks stripe =
+    refuse (not (eqb (length marks) (c .k + c .m)) || not (eqb stripe ((c .k + c .m) * 64))) Length
+    (refuse (ltb (count (marks-held marks) (length marks)) (c .k)) TooFewBlocks None)
+
+-- then it is the word of which the marks leave these blocks, if there is one
+abbrev pub Repaired : Coding → List ℕ → List ℕ → List ℕ → Type 0
+Repaired c marks was is = (w : Blocks) → c .Word w → Leaves marks (c .k + c .m) was w → Stores (c .k + c .m) is w
+
+-- a file is carried: a mark for each block of a stripe, and enough of them held
 abbrev pub survive-refusal : Coding → List ℕ → Option Refusal
 survive-refusal c marks =
     refuse (not (eqb (length marks) (c .k + c .m))) Length

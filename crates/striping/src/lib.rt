@@ -12,11 +12,12 @@ ghost use Rattle.block.specs.Block.{Blocks};
 ghost use Rattle.block.specs.Count.{count};
 ghost use Rattle.code.specs.Word.{lowest};
 ghost use Rattle.code.specs.Calls.{block-at, first, marked, marks-held};
-ghost use Rattle.striping.specs.Stripe.{Stores, Leaves, Fails, survive-refusal};
+ghost use Rattle.refusal.specs.Answer.{Does};
+ghost use Rattle.striping.specs.Stripe.{Stores, Leaves, Repaired, Fails, protect-refusal, repair-refusal, survive-refusal};
 use block::BLOCK;
 use block::wipe;
 use code::Code;
-use code::count_held;
+use code::too_few;
 use refusal::kind::Refusal;
 use std::alloc::AllocError;
 use std::alloc::Global;
@@ -68,8 +69,8 @@ fn add_check<C: Code>(code: &C, e: usize, given: &[u8], stripe: &mut [u8], block
     put_block(stripe, code.sizes().k + e, block);
 }
 
-// Lays the word of the data into a stripe.
-fn protect<C: Code>(code: &C, given: &[u8], stripe: &mut [u8], block: &mut [u8])
+// Lays the word of the data into a stripe; `block` is room for one.
+fn lay_word<C: Code>(code: &C, given: &[u8], stripe: &mut [u8], block: &mut [u8])
     requires { ⌜ length (now given) ≡ C·Code .coding (now code) .k * 64 ⌝ ∗ ⌜ length (now block) ≡ 64 ⌝ ∗ ⌜ length (now stripe) ≡ (C·Code .coding (now code) .k + C·Code .coding (now code) .m) * 64 ⌝ }
     ensures { λ _. ⌜ Stores (C·Code .coding (now (code .entry)) .k + C·Code .coding (now (code .entry)) .m) (now (stripe .exit)) (C·Code .coding (now (code .entry)) .whole (first (C·Code .coding (now (code .entry)) .k) (now (given .entry)))) ⌝ }
 {
@@ -105,7 +106,7 @@ fn restore<C: Code>(code: &C, i: usize, marks: &[u8], stripe: &mut [u8], block: 
 }
 
 // Rebuilds every block whose mark says that it is missing: what is left of a word becomes the word.
-fn repair<C: Code>(code: &C, marks: &[u8], stripe: &mut [u8], block: &mut [u8])
+fn restore_all<C: Code>(code: &C, marks: &[u8], stripe: &mut [u8], block: &mut [u8])
     requires long { ⌜ length (now marks) ≡ C·Code .coding (now code) .k + C·Code .coding (now code) .m ⌝ ∗ ⌜ length (now stripe) ≡ (C·Code .coding (now code) .k + C·Code .coding (now code) .m) * 64 ⌝ ∗ ⌜ length (now block) ≡ 64 ⌝ }
     requires enough { ⌜ C·Code .coding (now code) .k ≤ count (marks-held (now marks)) (length (now marks)) ⌝ }
     ensures { λ _. ⌜ ((w : Blocks) → C·Code .coding (now (code .entry)) .Word w → Leaves (now (marks .entry)) (length (now (marks .entry))) (now (stripe .entry)) w → Stores (length (now (marks .entry))) (now (stripe .exit)) w) ⌝ }
@@ -115,6 +116,35 @@ fn repair<C: Code>(code: &C, marks: &[u8], stripe: &mut [u8], block: &mut [u8])
             restore(code, i, marks, stripe, block);
         }
     }
+}
+
+// Lays k data blocks and their checks, the word of the data, into a stripe.
+pub fn protect<C: Code>(code: &C, given: &[u8], stripe: &mut [u8]) -> Result<(), Refusal>
+    ensures { λ r. ⌜ Does (protect-refusal (C·Code .coding (now (code .entry))) (length (now (given .entry))) (length (now (stripe .entry)))) (now (stripe .entry)) (λ is. Stores (C·Code .coding (now (code .entry)) .k + C·Code .coding (now (code .entry)) .m) is (C·Code .coding (now (code .entry)) .whole (first (C·Code .coding (now (code .entry)) .k) (now (given .entry))))) r (now (stripe .exit)) ⌝ }
+{
+    let sizes = code.sizes();
+    if given.len() != sizes.k * BLOCK || stripe.len() != (sizes.k + sizes.m) * BLOCK {
+        return Err(Refusal::Length);
+    }
+    let mut block = [0; BLOCK];
+    lay_word(code, given, stripe, &mut block);
+    Ok(())
+}
+
+// Rebuilds the blocks of a stripe whose marks are 0.
+pub fn repair<C: Code>(code: &C, marks: &[u8], stripe: &mut [u8]) -> Result<(), Refusal>
+    ensures { λ r. ⌜ Does (repair-refusal (C·Code .coding (now (code .entry))) (now (marks .entry)) (length (now (stripe .entry)))) (now (stripe .entry)) (λ is. Repaired (C·Code .coding (now (code .entry))) (now (marks .entry)) (now (stripe .entry)) is) r (now (stripe .exit)) ⌝ }
+{
+    let sizes = code.sizes();
+    if marks.len() != sizes.k + sizes.m || stripe.len() != (sizes.k + sizes.m) * BLOCK {
+        return Err(Refusal::Length);
+    }
+    if too_few(marks, sizes.k) {
+        return Err(Refusal::TooFewBlocks);
+    }
+    let mut block = [0; BLOCK];
+    restore_all(code, marks, stripe, &mut block);
+    Ok(())
 }
 
 // Carries one part of the file through the losses, and adds what came back to the result. The buffers have room for the
@@ -134,9 +164,9 @@ fn carry<C: Code>(
     ensures { λ r. ⌜ vec-items (now (out .exit)) ≡ cond (isOk r) (vec-items (now (out .entry)) ++ now (part .entry)) (vec-items (now (out .entry))) ⌝ }
 {
     load(given, part);
-    protect(code, given, stripe, block);
+    lay_word(code, given, stripe, block);
     forget(marks, stripe, block);
-    repair(code, marks, stripe, block);
+    restore_all(code, marks, stripe, block);
     out.extend_from_slice(&stripe[0..part.len()])
 }
 
@@ -181,7 +211,7 @@ pub fn survive<C: Code>(
     if marks.len() != sizes.k + sizes.m {
         return Err(Failure::Refused(Refusal::Length));
     }
-    if count_held(marks) < sizes.k {
+    if too_few(marks, sizes.k) {
         return Err(Failure::Refused(Refusal::TooFewBlocks));
     }
     let mut given = [0; 768];

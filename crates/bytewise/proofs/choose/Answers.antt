@@ -26,13 +26,15 @@ loop-i-again c =
     let more = test-more test (c .loop-i .chosen) (c .if-marks-i-ne0 .chosen) i in
     let room : i < length (c .loop-i .chosen) = omega arith in
     elim (c .if-marks-i-ne0 .came) [
-      then-marks-i-ne0 w ↦
-        let held = mark-held marks i (w .if-marks-i-ne0 .taken) in
-        (w .seen-is ∙ ap (λ x. x + 1) counted ∙ sym (count-more (marks-held marks) i held),
-        more (ltb (c .loop-i .seen) k) room (w .chosen-is ∙ set-set (c .loop-i .chosen) i false _) (c .loop-i .inv .1)
-          (ap (λ s. ltb s k) counted ∙ sym (ap (λ b. b && ltb (count (marks-held marks) i) k) held)))
-    | else-marks-i-ne0 w ↦
-        let missing = mark-missing marks i (w .if-marks-i-ne0 .left) in
-        (w .seen-is ∙ counted ∙ sym (count-skip (marks-held marks) i missing),
-        more false room (w .chosen-is) (c .loop-i .inv .1) (sym (ap (λ b. b && ltb (count (marks-held marks) i) k) missing)))
+      | then-marks-i-ne0 w ↦
+          let held = mark-held marks i (w .if-marks-i-ne0 .taken) in (
+            w .seen-is ∙ ap (λ x. x + 1) counted ∙ sym (count-more (marks-held marks) i held),
+            more (ltb (c .loop-i .seen) k) room (w .chosen-is ∙ set-set (c .loop-i .chosen) i false _) (c .loop-i .inv .1)
+                (ap (λ s. ltb s k) counted ∙ sym (ap (λ b. b && ltb (count (marks-held marks) i) k) held)),
+          )
+      | else-marks-i-ne0 w ↦
+          let missing = mark-missing marks i (w .if-marks-i-ne0 .left) in (
+            w .seen-is ∙ counted ∙ sym (count-skip (marks-held marks) i missing),
+            more false room (w .chosen-is) (c .loop-i .inv .1) (sym (ap (λ b. b && ltb (count (marks-held marks) i) k) missing)),
+          )
     ]

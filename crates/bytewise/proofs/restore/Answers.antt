@@ -11,6 +11,6 @@ pub returns : need.returns
 returns g c =
     let marks = c .args .marks .now in
     rebuild-written (g .B·Bytewise .recipe (c .args .code .now)) marks (c .args .blocks .now) (c .choose .last .chosen)
-      (c .pre .long .0) (omega arith)
-      (λ i l. c .choose .ensures i (omega arith) ∙ ap (λ k. marks-held marks i && ltb (count (marks-held marks) i) k) (c .data .ensures))
-      (c .args .wanted) (c .sum-chosen .last .out) (omega arith) (c .sum-chosen .ensures)
+    (c .pre .long .0) (omega arith)
+    (λ i l. c .choose .ensures i (omega arith) ∙ ap (λ k. marks-held marks i && ltb (count (marks-held marks) i) k) (c .data .ensures))
+    (c .args .wanted) (c .sum-chosen .last .out) (omega arith) (c .sum-chosen .ensures)

@@ -19,10 +19,10 @@ loop-i-again g c =
     let chosen = c .args .chosen .now in
     let i = c .loop-i .i in
     elim (c .if-chosen-i .came) [
-      then-chosen-i w ↦ λ j l.
-        ap (λ o. getD o j 0) (w .out-is) ∙ w .add-scaled .ensures j l
-        ∙ ap₂ bitXor (c .loop-i .inv j l) (ap₂ mul (part-byte (c .args .blocks .now) _ j l) (w .weight .ensures))
-        ∙ sym (summed-more (λ i. getD chosen i false) _ i (w .if-chosen-i .taken))
-    | else-chosen-i w ↦ λ j l.
-        ap (λ o. getD o j 0) (w .out-is) ∙ c .loop-i .inv j l ∙ sym (summed-skip (λ i. getD chosen i false) _ i (w .if-chosen-i .left))
+      | then-chosen-i w ↦ λ j l.
+          ap (λ o. getD o j 0) (w .out-is) ∙ w .add-scaled .ensures j l
+          ∙ ap₂ bitXor (c .loop-i .inv j l) (ap₂ mul (part-byte (c .args .blocks .now) _ j l) (w .weight .ensures))
+          ∙ sym (summed-more (λ i. getD chosen i false) _ i (w .if-chosen-i .taken))
+      | else-chosen-i w ↦ λ j l.
+          ap (λ o. getD o j 0) (w .out-is) ∙ c .loop-i .inv j l ∙ sym (summed-skip (λ i. getD chosen i false) _ i (w .if-chosen-i .left))
     ]

@@ -15,6 +15,6 @@ loop-i-again c =
     let marks = c .args .marks .now in
     let i = c .loop-i .i in
     elim (c .if-marks-i-ne0 .came) [
-      then-marks-i-ne0 w ↦ w .n-is ∙ ap (λ x. x + 1) (c .loop-i .inv) ∙ sym (count-more (marks-held marks) i (mark-held marks i (w .if-marks-i-ne0 .taken)))
-    | else-marks-i-ne0 w ↦ w .n-is ∙ c .loop-i .inv ∙ sym (count-skip (marks-held marks) i (mark-missing marks i (w .if-marks-i-ne0 .left)))
+      | then-marks-i-ne0 w ↦ w .n-is ∙ ap (λ x. x + 1) (c .loop-i .inv) ∙ sym (count-more (marks-held marks) i (mark-held marks i (w .if-marks-i-ne0 .taken)))
+      | else-marks-i-ne0 w ↦ w .n-is ∙ c .loop-i .inv ∙ sym (count-skip (marks-held marks) i (mark-missing marks i (w .if-marks-i-ne0 .left)))
     ]

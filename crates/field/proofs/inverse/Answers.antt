@@ -17,8 +17,8 @@ returns-then-a-eq0 c = record {
 pub returns : need.returns
 returns c =
     let is =
-        inverse-only (c .args .a) (c .power .result) (omega arith) (omega arith) (c .power .ok)
-          (ap₂ mul (sym (c .log .ensures .inverts)) (c .power .ensures) ∙ power-inverse (c .log .result) (c .log .ensures .below)) in
+    inverse-only (c .args .a) (c .power .result) (omega arith) (omega arith) (c .power .ok)
+    (ap₂ mul (sym (c .log .ensures .inverts)) (c .power .ensures) ∙ power-inverse (c .log .result) (c .log .ensures .below)) in
     record {
       value = ap Some is ∙ sym (cond-false (eqb (c .args .a) 0) None (Some (reciprocal (c .args .a))) (ne-eqb (c .args .a) 0 (c .if-a-eq0 .left)));
       laws = field-laws;

@@ -21,19 +21,19 @@ returns g c =
     let k = coding .k in
     let n = k + coding .m in
     let given = c .load .last .out in
-    let left = c .repair .last .stripe in
+    let left = c .restore-all .last .stripe in
     let small : (j : ℕ) → getD given j 0 < 256 =
-        λ j. ⊎-elim (λ (l : j < length given). subst (λ x. x < 256) (sym (c .load .ensures j l)) (c .typed .part j .fits))
-          (λ (l : length given ≤ j). subst (λ x. x < 256) (sym (getD-past given j 0 l)) (omega arith)) (cases-lt j (length given)) in
+    λ j. ⊎-elim (λ (l : j < length given). subst (λ x. x < 256) (sym (c .load .ensures j l)) (c .typed .part j .fits))
+    (λ (l : length given ≤ j). subst (λ x. x < 256) (sym (getD-past given j 0 l)) (omega arith)) (cases-lt j (length given)) in
     let blocks = first-blocks k n given (omega arith) small in
     let counted = first-count k (coding .m) given in
     let laws = g .C·Code·met .completes code in
     let word = coding .whole (first k given) in
-    let whole = c .repair .ensures word (laws .word (first k given) blocks counted)
-        (λ i l t. c .forget .ensures i t ∙ c .protect .ensures i (omega arith)) in
+    let whole = c .restore-all .ensures word (laws .word (first k given) blocks counted)
+    (λ i l t. c .forget .ensures i t ∙ c .lay-word .ensures i (omega arith)) in
     let back : (i : ℕ) → i < k → block-at left i ≡ block-at given i =
-        λ i l. whole i (omega arith) ∙ laws .has (first k given) blocks counted i (block-at given i) (omega arith) (first-at k given i l) in
+    λ i l. whole i (omega arith) ∙ laws .has (first k given) blocks counted i (block-at given i) (omega arith) (first-at k given i l) in
     let bytes = λ (j : ℕ) (l : j < length (c .args .part .now)). front-byte left given k back j (omega arith) ∙ c .load .ensures j (omega arith) in
     c .extend-from-slice .ensures .items
     ∙ ap (λ p. cond (isOk (c .extend-from-slice .result)) (vec-items (c .args .out .now) ++ p) (vec-items (c .args .out .now)))
-        (front-part left (c .args .part .now) (omega arith) bytes)
+    (front-part left (c .args .part .now) (omega arith) bytes)

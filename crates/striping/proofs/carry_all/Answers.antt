@@ -14,10 +14,11 @@ loop-at-again g c =
     let end = c .min-end .result in
     let within : end ≤ length file = omega (arith, c .min-end .ensures) in
     let later : at ≤ end = omega (arith, c .min-end .ensures, c .saturating-add .ensures) in
-    let sum : at + (end - at) ≡ end = omega arith in
-    (within,
-    pushed (take (end - at) (drop at file)) (c .loop-at .inv .1) (c .in-Continue-carry .was tt) (c .carry .ensures)
-    ∙ sym (take-add at (end - at) file) ∙ ap (λ n. take n file) sum)
+    let sum : at + (end - at) ≡ end = omega arith in (
+      within,
+      pushed (take (end - at) (drop at file)) (c .loop-at .inv .1) (c .in-Continue-carry .was tt) (c .carry .ensures)
+          ∙ sym (take-add at (end - at) file) ∙ ap (λ n. take n file) sum,
+    )
 
 pub returns : need.returns
 returns g c = c .loop-at .inv .1 ∙ take-all (c .loop-at .at) (c .args .file .now) (omega arith)

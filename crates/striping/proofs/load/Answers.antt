@@ -11,5 +11,5 @@ pub returns : need.returns
 returns c =
     let part = c .args .part .now in
     λ j l.
-      ⊎-elim (λ (h : j < length part). c .copy-to .ensures .front j h)
-        (λ (h : length part ≤ j). c .copy-to .ensures .rest j h ∙ c .wipe .ensures j (omega arith) ∙ sym (getD-past part j 0 h)) (cases-lt j (length part))
+    ⊎-elim (λ (h : j < length part). c .copy-to .ensures .front j h)
+    (λ (h : length part ≤ j). c .copy-to .ensures .rest j h ∙ c .wipe .ensures j (omega arith) ∙ sym (getD-past part j 0 h)) (cases-lt j (length part))

@@ -9,8 +9,8 @@ pub returns : need.returns
 returns g c =
     record {
       here = c .put-block .ensures .here
-        ∙ turned _ _ _ _ _ (c .rebuild .ensures)
-            (accepted (g .C·Code .coding (c .args .code .now)) (c .args .i) (c .args .marks .now) (length (c .args .stripe .now)) (length (c .args .block .now))
-              (omega arith) (omega arith) (omega arith) (omega arith) (omega arith));
+          ∙ turned _ _ _ _ _ (c .rebuild .ensures)
+          (accepted (g .C·Code .coding (c .args .code .now)) (c .args .i) (c .args .marks .now) (length (c .args .stripe .now)) (length (c .args .block .now))
+          (omega arith) (omega arith) (omega arith) (omega arith) (omega arith));
       others = c .put-block .ensures .others;
     }

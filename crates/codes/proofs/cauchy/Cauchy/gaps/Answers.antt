@@ -23,11 +23,11 @@ loop-j-again c =
     let j = c .loop-j .j in
     let difference : ℕ → ℕ = λ x. bitXor (point (c .args .self .now .k) (c .args .x)) (point (c .args .self .now .k) x) in
     elim (c .if-chosen-j .came) [
-      then-chosen-j·then-j-i w ↦
-        w .all-is ∙ w .product-all .ensures ∙ ap₂ mul (c .loop-j .inv) (ap₂ bitXor (c .point-at .ensures) (w .point .ensures))
-        ∙ sym (multiplied-more (without chosen i) difference j (without-other chosen i j (w .if-j-i .taken) ∙ w .if-chosen-j .taken))
-    | else-chosen-j w ↦
-        w .all-is ∙ c .loop-j .inv
-        ∙ sym (multiplied-skip (without chosen i) difference j
-            (⊎-elim (λ s. without-itself chosen i j (s .1)) (λ s. ap (λ b. b && not (eqb j i)) s) (w .else-chosen-j .either)))
+      | then-chosen-j·then-j-i w ↦
+          w .all-is ∙ w .product-all .ensures ∙ ap₂ mul (c .loop-j .inv) (ap₂ bitXor (c .point-at .ensures) (w .point .ensures))
+          ∙ sym (multiplied-more (without chosen i) difference j (without-other chosen i j (w .if-j-i .taken) ∙ w .if-chosen-j .taken))
+      | else-chosen-j w ↦
+          w .all-is ∙ c .loop-j .inv
+          ∙ sym (multiplied-skip (without chosen i) difference j
+          (⊎-elim (λ s. without-itself chosen i j (s .1)) (λ s. ap (λ b. b && not (eqb j i)) s) (w .else-chosen-j .either)))
     ]

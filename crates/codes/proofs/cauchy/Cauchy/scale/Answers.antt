@@ -10,4 +10,4 @@ pub returns : need.returns
 returns c =
     c .gaps .ensures
     ∙ multiplied-same _ _ _ (c .args .self .now .k)
-        (λ j l. ap (λ b. b && not (eqb j (c .args .x))) (getD-replicate 12 j true false (omega arith)))
+    (λ j l. ap (λ b. b && not (eqb j (c .args .x))) (getD-replicate 12 j true false (omega arith)))

@@ -4,7 +4,7 @@ use lib.ListN.{length}
 use Rattle.block.specs.Block.{Blocks}
 use Rattle.code.specs.Calls.{block-at}
 use Rattle.striping.specs.Stripe.{Stores, Leaves}
-use Rattle.striping.proofs.repair.Given as given
+use Rattle.striping.proofs.restore_all.Given as given
 
 abbrev pub Inv-loop-i : given.InvT-loop-i
 Inv-loop-i g l =

@@ -1,7 +1,7 @@
 use mathlib.Core.Path.{_≡_}
 use Prim.Native.Nat.{ℕ, _+_, _<_}
 use Rattle.code.specs.Calls.{block-at, first}
-use Rattle.striping.proofs.protect.Given as given
+use Rattle.striping.proofs.lay_word.Given as given
 
 abbrev pub Inv-loop-e : given.InvT-loop-e
 Inv-loop-e g l =
