@@ -72,7 +72,7 @@ fn choose(k: usize, marks: &[u8], chosen: &mut [bool])
     requires { ⌜ length (now chosen) ≡ length (now marks) ⌝ }
     ensures { λ _. ⌜ ((i : ℕ) → i < length (now (marks .entry)) → getD (now (chosen .exit)) i false ≡ marks-held (now (marks .entry)) i && ltb (count (marks-held (now (marks .entry))) i) k) ⌝ }
 {
-    let mut seen = 0;
+    let mut seen: usize = 0;
     for i in 0..marks.len() {
         chosen[i] = false;
         if marks[i] != 0 {
