@@ -1,6 +1,6 @@
 // A file cut into stripes of k data blocks, each protected by a code, hurt, and brought back.
 ghost use mathlib.Core.Path.{_≡_};
-ghost use mathlib.Core.Bool.{cond, true};
+ghost use mathlib.Core.Bool.{cond, true, false};
 ghost use mathlib.Core.List.{_++_};
 ghost use Prim.Native.Nat.{ℕ, _+_, _*_, _<_, _≤_};
 ghost use lib.ListN.{length, getD};
@@ -83,7 +83,8 @@ fn lay_word<C: Code>(code: &C, given: &[u8], stripe: &mut [u8], block: &mut [u8]
 // Zeros in place of every block whose mark says that it is missing; `block` is room for one.
 fn forget(marks: &[u8], stripe: &mut [u8], block: &mut [u8])
     requires { ⌜ length (now stripe) ≡ length (now marks) * 64 ⌝ ∗ ⌜ length (now marks) ≤ 16 ⌝ ∗ ⌜ length (now block) ≡ 64 ⌝ }
-    ensures { λ _. ⌜ ((i : ℕ) → marks-held (now (marks .entry)) i ≡ true → block-at (now (stripe .exit)) i ≡ block-at (now (stripe .entry)) i) ⌝ }
+    ensures kept { λ _. ⌜ ((i : ℕ) → marks-held (now (marks .entry)) i ≡ true → block-at (now (stripe .exit)) i ≡ block-at (now (stripe .entry)) i) ⌝ }
+    ensures gone { λ _. ⌜ ((i j : ℕ) → i < length (now (marks .entry)) → j < 64 → marks-held (now (marks .entry)) i ≡ false → getD (block-at (now (stripe .exit)) i) j 0 ≡ 0) ⌝ }
 {
     wipe(block);
     for i in 0..marks.len() {

@@ -30,7 +30,7 @@ returns g c =
     let laws = g .C·Code·met .completes code in
     let word = coding .whole (first k given) in
     let whole = c .restore-all .ensures word (laws .word (first k given) blocks counted)
-    (λ i l t. c .forget .ensures i t ∙ c .lay-word .ensures i (omega arith)) in
+    (λ i l t. c .forget .ensures .kept i t ∙ c .lay-word .ensures i (omega arith)) in
     let back : (i : ℕ) → i < k → block-at left i ≡ block-at given i =
     λ i l. whole i (omega arith) ∙ laws .has (first k given) blocks counted i (block-at given i) (omega arith) (first-at k given i l) in
     let bytes = λ (j : ℕ) (l : j < length (c .args .part .now)). front-byte left given k back j (omega arith) ∙ c .load .ensures j (omega arith) in
