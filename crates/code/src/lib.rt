@@ -47,7 +47,7 @@ pub trait Code {
 }
 
 // How many marks say that a block is held.
-fn count_held(marks: &[u8]) -> usize
+pub fn count_held(marks: &[u8]) -> usize
     ensures { λ r. ⌜ r ≡ count (marks-held (now (marks .entry))) (length (now (marks .entry))) ⌝ }
 {
     let mut n = 0;

@@ -75,3 +75,34 @@ pub impl fmt::Display for Refusal as RefusalDisplay {
         }
     }
 }
+
+#[cfg(test)]
+mod tests {
+    use super::*;
+    use std::test::*;
+
+    #[test]
+    fn texts(rt: LibcRuntime) -> Result<(), Fail> {
+        let texts = [
+            (Refusal::Node, "refusal 1: no such node"),
+            (
+                Refusal::Missing { node: 3, place: 1 },
+                "refusal 7: no block at node 3, place 1",
+            ),
+            (
+                Refusal::Incomplete { rank: 0, place: 63 },
+                "refusal 9: not complete: the first block missing is at rank 0, place 63",
+            ),
+            (Refusal::TooFewBlocks, "refusal 17: too few blocks are held"),
+            (
+                Refusal::Damaged { byte: 304 },
+                "refusal 19: damaged image: the bad record starts at byte 304",
+            ),
+        ];
+        for (refusal, text) in texts {
+            let shown = format!(rt.alloc(), "{refusal}")?;
+            check_eq(shown.as_str(), text)?;
+        }
+        Ok(())
+    }
+}
