@@ -4,8 +4,8 @@ ghost use Rattle.std.specs.Vec.{made};
 ghost use Rattle.std.specs.Written.{decimal};
 use crate::mistake::Mistake;
 use crate::mistake::MistakeFromRefused;
-use crate::number::read_number;
 use std::alloc::Global;
+use words::read_number;
 
 // The forms of the commands, for who left out a word.
 const ANY: &str = "copy, sum, rs or vectors";

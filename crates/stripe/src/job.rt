@@ -10,8 +10,6 @@ ghost use Rattle.std.specs.Vec.{made};
 ghost use Rattle.stripe.specs.Lost.{Among, Marks};
 use crate::command::Job;
 use crate::command::Kind;
-use crate::counted::Counted;
-use crate::counted::CountedDisplay;
 use crate::mistake::Mistake;
 use crate::mistake::MistakeFromAlloc;
 use crate::mistake::MistakeFromFailure;
@@ -32,6 +30,8 @@ use std::alloc::Global;
 use std::fmt;
 use std::fs;
 use striping::survive;
+use words::counted::Counted;
+use words::counted::CountedDisplay;
 
 // What became of a file that came back whole.
 #[derive(Drop)]

@@ -6,11 +6,9 @@
 //     stripe vectors FILE           compares the Cauchy code with known answers
 //     stripe -                      reads such commands from standard input, one to a line
 mod command;
-mod counted;
 mod hex;
 mod job;
 mod mistake;
-mod number;
 mod vectors;
 
 use command::Command;

@@ -13,7 +13,6 @@ ghost use Rattle.stripe.specs.Hex.{Writes};
 use crate::hex::read_block;
 use crate::mistake::Mistake;
 use crate::mistake::MistakeFromIo;
-use crate::number::read_number;
 use block::BLOCK;
 use code::Code;
 use code::SizesPartialEq;
@@ -24,6 +23,7 @@ use std::alloc::AllocError;
 use std::alloc::Global;
 use std::alloc::Refused;
 use std::fs;
+use words::read_number;
 
 // Why a line is not compared.
 enum Fault {

@@ -1,8 +1,10 @@
-// Numbers as words.
+// Numbers as people write them.
 ghost use mathlib.Core.Path.{_≡_};
 ghost use Prim.Native.Nat.{ℕ, _^_, _<_};
 ghost use Rattle.std.specs.Options.{Cases as BySome};
 ghost use Rattle.std.specs.Written.{decimal};
+
+pub mod counted;
 
 // The number that a word writes: decimal digits, with no zero in front but for 0 itself.
 pub fn read_number(word: &str) -> Option<usize>

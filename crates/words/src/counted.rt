@@ -1,4 +1,5 @@
 // A number of things, in words.
+ghost use mathlib.Core.Path.{_≡_};
 use std::fmt;
 
 // So many of them: `1 stripe`, `5 stripes`.
@@ -10,7 +11,9 @@ pub struct Counted {
 
 impl Counted {
     // The number, and the name of one of them.
-    pub fn of(number: usize, thing: &'static str) -> Counted {
+    pub fn of(number: usize, thing: &'static str) -> Counted
+        ensures { λ r. ⌜ r .number ≡ number ⌝ ∗ ⌜ now (r .thing) ≡ now (thing .entry) ⌝ }
+    {
         Counted { number, thing }
     }
 }

@@ -2,9 +2,9 @@ use borrow.Author.Needs.{needs}
 use mathlib.Core.Path.{_≡_}
 use lib.ListN.{length, getD}
 use native.Mathlib.Omega.{arith}
-use Rattle.stripe.proofs.Decimals.{reads-decimal, no-plus, no-zero, some-first}
-use Rattle.stripe.proofs.number.read_number.Needs as need
-use Rattle.stripe.proofs.number.read_number.Needs.{else-digits-gt0·by·then-digits-gt0·else-digits-eq43, else-digits-gt0·by·else-digits-gt0, else-digits-gt1·by·then-digits-gt1·else-digits-eq48, else-digits-gt1·by·else-digits-gt1}
+use Rattle.words.proofs.Decimals.{reads-decimal, no-plus, no-zero, some-first}
+use Rattle.words.proofs.read_number.Needs as need
+use Rattle.words.proofs.read_number.Needs.{else-digits-gt0·by·then-digits-gt0·else-digits-eq43, else-digits-gt0·by·else-digits-gt0, else-digits-gt1·by·then-digits-gt1·else-digits-eq48, else-digits-gt1·by·else-digits-gt1}
 
 plus : (c : need.After-ok) → getD (c .args .word .now) 0 0 ≡ 43 → ⊥
 plus c =
