@@ -1,6 +1,8 @@
 -- How a refusal, or none, becomes a call's answer, and what the call leaves.
 use mathlib.Core.Path.{_≡_}
 use mathlib.Core.Bool.{Bool, cond}
+use Prim.Native.Nat.{ℕ, zero, suc}
+use Rattle.std.specs.Options.{orOther}
 use Rattle.std.specs.declared.option.Option.{Option}
 use Rattle.std.specs.declared.option.Option.the-variants.{Some, None}
 use Rattle.std.specs.declared.result.Result.{Result}
@@ -35,3 +37,8 @@ Left (Some f) was P is = is ≡ was
 pub record Does {S : Type 0} (f : Option Refusal) (was : S) (P : S → Type 0) (r : Result Unit Refusal) (is : S) : Type 0 where
   pub answer : r ≡ outcome f tt
   pub leaves : Left f was P is
+
+-- of the refusals at the numbers below n, the first
+abbrev pub first : (ℕ → Option Refusal) → ℕ → Option Refusal
+first f zero = None
+first f (suc n) = orOther (first f n) (f n)
