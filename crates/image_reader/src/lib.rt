@@ -255,11 +255,9 @@ impl<'a> ImageReader<'a> {
         ensures image { λ r. ⌜ imageOf r ≡ now (image .entry) ⌝ }
         ensures example { λ _. ⌜ Image-example ⌝ }
     {
+        let bytes = image;
         ImageReader {
-            laid: Laid {
-                shape,
-                bytes: image,
-            },
+            laid: Laid { shape, bytes },
         }
     }
 
@@ -310,7 +308,8 @@ pub impl<'a> Reading for ImageReader<'a> as ImageReading {
     ghost lawful = { λ r k. lawful (gridOf r) (k .grid) };
 
     fn shape(&self) -> Shape {
-        self.laid.shape
+        let Laid { shape, .. } = self.laid;
+        shape
     }
 
     fn state(&self, slot: usize) -> Result<State, Refusal> {
