@@ -35,7 +35,7 @@ pub enum Call {
 }
 
 impl Call {
-    // The call of that name with these numbers.
+    // The call of that name with these numbers. No contract: the names are this program's own, and its stored run tests them.
     pub fn named(name: &str, numbers: &[usize]) -> Option<Call> {
         match (name, numbers) {
             ("state", [slot]) => Some(Call::State { slot: *slot }),
@@ -58,7 +58,7 @@ impl Call {
         }
     }
 
-    // Whether the call is answered by bytes.
+    // Whether the call is answered by bytes. No contract: it only chooses what is printed.
     pub fn reads(&self) -> bool {
         match self {
             Call::State { .. } | Call::Get { .. } => true,
@@ -66,7 +66,8 @@ impl Call {
         }
     }
 
-    // Makes the call. A block, or the number of a state, goes to the buffer.
+    // Makes the call. A block, or the number of a state, goes to the buffer. No contract: each call of a store has its own; that
+    // the right one is made, with its numbers in order, is only tested, by the stored run.
     pub fn make<S: Store>(&self, store: &mut S, out: &mut [u8; 64]) -> Result<(), Refusal> {
         match *self {
             Call::State { slot } => {

@@ -40,7 +40,8 @@ fn shape_of<'a>(nodes: &'a str, places: &'a str, slots: &'a str) -> Result<Shape
     })
 }
 
-// The command that the words make.
+// The command that the words make. No contract: that the numbers are those of the words is `shape_of`'s; which word is which is
+// only tested.
 pub fn parse<'a>(words: &[&'a str]) -> Result<Command<'a>, Mistake<'a>> {
     match words {
         [nodes, places, slots, path] => {

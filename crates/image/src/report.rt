@@ -115,7 +115,7 @@ fn print_slot(rt: &LibcRuntime, reader: &ImageReader, slot: usize) -> io::Result
     Ok(())
 }
 
-// Prints the sizes of an image and its slots.
+// Prints the sizes of an image and its slots. It ensures nothing: no contract speaks of what is printed.
 pub fn print(rt: &LibcRuntime, path: &str, reader: &ImageReader) -> io::Result<()>
     requires { ⌜ SoundReader (now reader) ⌝ }
 {

@@ -27,7 +27,7 @@ pub enum Kind {
 }
 
 impl Kind {
-    // The word that asks for it.
+    // The word that asks for it. No contract: it is only printed.
     pub fn name(&self) -> &'static str {
         match self {
             Kind::Copy { .. } => "copy",
@@ -78,7 +78,8 @@ fn protection<'a>(
     Ok(Command::Protect(Job { kind, path, lost }))
 }
 
-// The command that the words make.
+// The command that the words make. No contract: that a number is that of its word is `number`'s; which word is which is only
+// tested.
 pub fn parse<'a>(heap: Global, words: &[&'a str]) -> Result<Command<'a>, Mistake<'a>> {
     match words {
         [] => Err(Mistake::MissingWord(ANY)),

@@ -156,7 +156,8 @@ fn carry<'a, C: Code>(
     })
 }
 
-// Makes the code that the job asks for, and protects the file by it.
+// Makes the code that the job asks for, and protects the file by it. No contract: that a file comes back is that of `survive`;
+// that the job's code and sizes are the ones used is only tested.
 pub fn protect<'a>(rt: &LibcRuntime, job: &Job<'a>) -> Result<Report<'a>, Mistake<'a>> {
     match job.kind {
         Kind::Copy { m } => carry(rt, &Copies::new(m)?, job),

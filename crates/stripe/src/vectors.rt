@@ -202,7 +202,7 @@ fn any_agrees(heap: Global, code: Cauchy, words: &[&str]) -> Result<bool, Fault>
     word.agrees_with(heap, &[*number, *marks, *result])
 }
 
-// Compares every line of the file, and says which do not agree.
+// Compares every line of the file, and says which do not agree. No contract: it speaks of a file and of what is printed.
 pub fn compare<'a>(rt: &LibcRuntime, path: &'a str) -> Result<(), Mistake<'a>> {
     let text = match fs::read_to_string(rt, path) {
         Ok(text) => text,
