@@ -1,6 +1,6 @@
 -- The row of a table after a write.
 use Rattle.std.proofs.Common.{◌≡◌, ℕ, ◌<◌, ◌≤◌, Bool, true, false, cond, ◌&&◌, eqb, ltb, leb, List, length, get_or, set, replicate, is_some, Some, None, Option, sym, refl, ap, ◌∙◌, ⊎_elim, arith}
-use Rattle.std.proofs.lemmas.List.{get_or_replicate, get_or_past, length_replicate}
+use Rattle.std.proofs.lemmas.List.{get_or-replicate, get_or_past, length-replicate}
 use Rattle.std.proofs.lemmas.Bool.{cases_lt}
 use Rattle.std.proofs.lemmas.Bool.Decides.{nat_tests}
 use Rattle.store.specs.declared.kinds.Shape.{Shape}
@@ -47,7 +47,7 @@ module _ (h : Shape) (zs : List State) (xs : List Cell) (k : SoundTable h zs xs)
 
 -- eight empty marks, and a table wiped whole
 pub empty_marks : (n t : ℕ) → marks_of (replicate n Empty) t ≡ Empty
-empty_marks n t = ⊎_elim (λ l. get_or_replicate n t Empty Empty l) (λ l. get_or_past (replicate n Empty) t Empty (rw length_replicate l)) (cases_lt t n)
+empty_marks n t = ⊎_elim (λ l. get_or-replicate n t Empty Empty l) (λ l. get_or_past (replicate n Empty) t Empty (rw length-replicate l)) (cases_lt t n)
 
 pub wiped_whole : (xs ys : List Cell) → ((i : ℕ) → at ys i ≡ cond (leb 0 i && ltb i (length xs)) blank (at xs i)) → (i : ℕ) → row_of ys i ≡ None
 wiped_whole xs ys w i = ap content (w i ∙ go) where

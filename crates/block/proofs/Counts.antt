@@ -1,14 +1,14 @@
 -- How many numbers below a bound pass a test. Assumes nothing.
-use Rattle.std.proofs.Common.{◌≡◌, ℕ, zero, suc, ◌+◌, ◌<◌, ◌≤◌, Bool, true, false, cond, not, ◌||◌, eqb, ltb, sym, refl, ap, ◌∙◌, ap₂, ⊎_elim, add_one, arith}
-use Rattle.std.proofs.lemmas.Bool.{cases_eq, cases_lt, cond_true, cond_false, lt_ltb, le_ltb, eq_eqb, ne_eqb, false≢true}
+use Rattle.std.proofs.Common.{◌≡◌, ℕ, zero, suc, ◌+◌, ◌<◌, ◌≤◌, Bool, true, false, cond, not, ◌||◌, eqb, ltb, sym, refl, ap, ◌∙◌, ap₂, ⊎_elim, add-one, arith}
+use Rattle.std.proofs.lemmas.Bool.{cases_eq, cases_lt, cond-true, cond-false, lt-ltb, le-ltb, eq-eqb, ne_eqb, false≢true}
 use Rattle.block.specs.Count.{count}
 
 -- one number more, which passes or not
 pub count_more : (p : ℕ → Bool) (n : ℕ) → p n ≡ true → count p (n + 1) ≡ count p n + 1
-count_more p n t = rw add_one (cond_true (p n) _ _ t ∙ sym (add_one (count p n)))
+count_more p n t = rw add-one (cond-true (p n) _ _ t ∙ sym (add-one (count p n)))
 
 pub count_skip : (p : ℕ → Bool) (n : ℕ) → p n ≡ false → count p (n + 1) ≡ count p n
-count_skip p n t = rw add_one (cond_false (p n) _ _ t)
+count_skip p n t = rw add-one (cond-false (p n) _ _ t)
 
 pub count_same : (p q : ℕ → Bool) (n : ℕ) → ((i : ℕ) → i < n → p i ≡ q i) → count p n ≡ count q n
 count_same p q zero h = refl
@@ -21,7 +21,7 @@ count_none p (suc n) h = ap (λ b. cond b (suc (count p n)) (count p n)) (h n (o
 pub count_one : (a n : ℕ) → a < n → count (λ i. eqb i a) n ≡ 1
 count_one a zero h = absurd (omega arith)
 count_one a (suc n) h =
-    ⊎_elim (λ (e : n ≡ a). ap (λ b. cond b (suc (count (λ i. eqb i a) n)) (count (λ i. eqb i a) n)) (eq_eqb n a e)
+    ⊎_elim (λ (e : n ≡ a). ap (λ b. cond b (suc (count (λ i. eqb i a) n)) (count (λ i. eqb i a) n)) (eq-eqb n a e)
     ∙ ap suc (count_none (λ i. eqb i a) n (λ i l. ne_eqb i a (λ q. omega arith))))
     (λ (ne : n ≡ a → ⊥). ap (λ b. cond b (suc (count (λ i. eqb i a) n)) (count (λ i. eqb i a) n)) (ne_eqb n a ne) ∙ count_one a n (omega arith))
     (cases_eq n a)
@@ -78,9 +78,9 @@ pub count_below : (k n : ℕ) → k ≤ n → count (λ i. ltb i k) n ≡ k
 count_below k zero l = omega arith
 count_below k (suc n) l =
     ⊎_elim
-    (λ (h : n < k). ap (λ b. cond b (suc (count (λ i. ltb i k) n)) (count (λ i. ltb i k) n)) (lt_ltb n k h)
-    ∙ ap suc (count_same (λ i. ltb i k) (λ i. true) n (λ i li. lt_ltb i k (omega arith)) ∙ count_all n) ∙ omega arith)
-    (λ (h : k ≤ n). ap (λ b. cond b (suc (count (λ i. ltb i k) n)) (count (λ i. ltb i k) n)) (le_ltb n k h) ∙ count_below k n h)
+    (λ (h : n < k). ap (λ b. cond b (suc (count (λ i. ltb i k) n)) (count (λ i. ltb i k) n)) (lt-ltb n k h)
+    ∙ ap suc (count_same (λ i. ltb i k) (λ i. true) n (λ i li. lt-ltb i k (omega arith)) ∙ count_all n) ∙ omega arith)
+    (λ (h : k ≤ n). ap (λ b. cond b (suc (count (λ i. ltb i k) n)) (count (λ i. ltb i k) n)) (le-ltb n k h) ∙ count_below k n h)
     (cases_lt n k)
 
 -- what passes one test passes another

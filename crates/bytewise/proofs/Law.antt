@@ -1,8 +1,8 @@
 -- The law of a code from that of its bytes. Assumes nothing.
-use Rattle.std.proofs.Common.{◌≡◌, ℕ, ◌+◌, ◌<◌, ◌≤◌, Bool, true, false, List, [], map, length, get_or, is_some, Some, None, Option, unwrap_or, sym, refl, ap, ◌∙◌, subst, ap₂, ⊎_elim, zero_add, arith, lit<}
+use Rattle.std.proofs.Common.{◌≡◌, ℕ, ◌+◌, ◌<◌, ◌≤◌, Bool, true, false, List, [], map, length, get_or, is_some, Some, None, Option, unwrap_or, sym, refl, ap, ◌∙◌, subst, ap₂, ⊎_elim, zero-add, arith, lit<}
 use mathlib.Core.Path.{fun_ext}
 use Rattle.std.specs.List.{range_with_len}
-use Rattle.std.proofs.lemmas.List.FromFn.{get_or_map_range_with_len, length_map_range_with_len}
+use Rattle.std.proofs.lemmas.List.FromFn.{get_or-map-range_with_len, length-map-range_with_len}
 use Rattle.std.proofs.lemmas.List.{get_or_past}
 use Rattle.std.proofs.lemmas.Bool.{cases_lt}
 use Rattle.block.specs.Block.{Block, Blocks, Held, IsBlock}
@@ -25,10 +25,10 @@ module _ (r : Recipe) (h : Held) where
   byte_below c j = summed_byte (held h) _ (r.k + r.m) (λ i l. mul_byte _ _)
 
   pub completed_size : (c : ℕ) → length (completed r h c) ≡ 64
-  completed_size c = length_map_range_with_len (byte_at c) 0 64
+  completed_size c = length-map-range_with_len (byte_at c) 0 64
 
   pub completed_at : (c j : ℕ) → j < 64 → get_or (completed r h c) j 0 ≡ byte_at c j
-  completed_at c j l = get_or_map_range_with_len (byte_at c) 0 64 j j 0 l (zero_add j)
+  completed_at c j l = get_or-map-range_with_len (byte_at c) 0 64 j j 0 l (zero-add j)
 
   completed_block : (c : ℕ) → IsBlock (completed r h c)
   completed_block c = record {

@@ -1,7 +1,7 @@
 -- Blocks that lie one after the other: the first k of them, and the k lowest that marks leave. Assumes nothing.
 use Rattle.std.proofs.Common.{◌≡◌, ℕ, zero, suc, ◌+◌, ◌-◌, ◌*◌, ◌<◌, ◌≤◌, Bool, true, false, cond, ◌&&◌, ltb, List, [], length, get_or, take, drop, is_some as option_is_some, Some, None, Option, unwrap_or, sym, refl, ap, ◌∙◌, subst, ap₂, ⊎_elim, arith}
-use Rattle.std.proofs.lemmas.List.{get_or_take, get_or_drop, get_or_past, length_drop, length_take_le}
-use Rattle.std.proofs.lemmas.Bool.{cases_lt, lt_ltb, le_ltb, ltb_true, and_parts, cond_true}
+use Rattle.std.proofs.lemmas.List.{get_or-take, get_or-drop, get_or_past, length-drop, length-take-le}
+use Rattle.std.proofs.lemmas.Bool.{cases_lt, lt-ltb, le-ltb, ltb-true, and_parts, cond-true}
 use Rattle.block.specs.Block.{Block, Held, IsBlock}
 use Rattle.block.specs.Count.{count}
 use Rattle.block.proofs.Counts.{count_same, count_below}
@@ -12,10 +12,10 @@ use Rattle.code.proofs.Lowest.{among_lowest, held_lowest, count_lowest_held}
 
 -- a byte of a block among others
 pub block_byte : (bytes : List ℕ) (i j : ℕ) → j < 64 → get_or (block_at bytes i) j 0 ≡ get_or bytes (i * 64 + j) 0
-block_byte bytes i j l = get_or_take 64 (drop (i * 64) bytes) j 0 l ∙ get_or_drop (i * 64) bytes j 0
+block_byte bytes i j l = get_or-take 64 (drop (i * 64) bytes) j 0 l ∙ get_or-drop (i * 64) bytes j 0
 
 pub block_size : (bytes : List ℕ) (i n : ℕ) → i < n → n * 64 ≤ length bytes → length (block_at bytes i) ≡ 64
-block_size bytes i n l room = length_take_le 64 (drop (i * 64) bytes) (simp length_drop (omega arith))
+block_size bytes i n l room = length-take-le 64 (drop (i * 64) bytes) (simp length-drop (omega arith))
 
 pub is_block : (bytes : List ℕ) (i n : ℕ) → i < n → n * 64 ≤ length bytes → ((j : ℕ) → get_or bytes j 0 < 256) → IsBlock (block_at bytes i)
 is_block bytes i n l room small = record {
@@ -30,20 +30,20 @@ is_block bytes i n l room small = record {
 pub first_blocks : (k n : ℕ) (bytes : List ℕ) → k * 64 ≤ length bytes → ((j : ℕ) → get_or bytes j 0 < 256) → AllBlocks n (first k bytes)
 first_blocks k n bytes room small i b l e =
     let s = some_if (ltb i k) (block_at bytes i) b e in
-    subst IsBlock s.1 (is_block bytes i k (ltb_true i k s.0) room small)
+    subst IsBlock s.1 (is_block bytes i k (ltb-true i k s.0) room small)
 
 pub first_count : (k m : ℕ) (bytes : List ℕ) → count_held (first k bytes) (k + m) ≡ k
 first_count k m bytes =
     count_same _ (λ i. ltb i k) (k + m) (λ i l. is_some (ltb i k) (block_at bytes i)) ∙ count_below k (k + m) (omega arith)
 
 pub first_at : (k : ℕ) (bytes : List ℕ) (i : ℕ) → i < k → first k bytes i ≡ Some (block_at bytes i)
-first_at k bytes i l = cond_true (ltb i k) _ _ (lt_ltb i k l)
+first_at k bytes i l = cond-true (ltb i k) _ _ (lt-ltb i k l)
 
 -- two tests in a row
 both_if : (a b : Bool) (x : Block) → (b && a) ≡ true → cond a (cond b (Some x) None) None ≡ Some x
 both_if a b x t =
     let s = and_parts b a t in
-    cond_true a _ _ s.1 ∙ cond_true b _ _ s.0
+    cond-true a _ _ s.1 ∙ cond-true b _ _ s.0
 
 module _ (k : ℕ) (marks bytes : List ℕ) where
   pub counts_marked : (i : ℕ) → count_held (marked marks bytes) i ≡ count (marks_held marks) i

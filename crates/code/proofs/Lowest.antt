@@ -1,6 +1,6 @@
 -- Of the numbers that pass a test, and of the blocks that are held, the k lowest. Assumes nothing.
 use Rattle.std.proofs.Common.{◌≡◌, ℕ, zero, suc, ◌+◌, ◌-◌, ◌<◌, ◌≤◌, Bool, true, false, cond, ◌&&◌, ltb, is_some, Some, None, Option, refl, ap, ◌∙◌, ⊎_elim, arith}
-use Rattle.std.proofs.lemmas.Bool.{cases_lt, lt_ltb, le_ltb, false≢true}
+use Rattle.std.proofs.lemmas.Bool.{cases_lt, lt-ltb, le-ltb, false≢true}
 use Rattle.block.specs.Block.{Block, Held}
 use Rattle.block.specs.Count.{count}
 use Rattle.block.proofs.Counts.{count_same}
@@ -16,10 +16,10 @@ count_lowest k p (suc n) =
     + (cond b (suc (count p n)) (count p n) - k) ≡ cond b (suc (count p n)) (count p n)) [
       | true ↦ ⊎_elim
           (λ (l : count p n < k).
-          ap (λ t. cond t (suc (count (among_lowest k p) n)) (count (among_lowest k p) n) + (suc (count p n) - k)) (lt_ltb (count p n) k l)
+          ap (λ t. cond t (suc (count (among_lowest k p) n)) (count (among_lowest k p) n) + (suc (count p n) - k)) (lt-ltb (count p n) k l)
           ∙ omega (arith, count_lowest k p n))
           (λ (l : k ≤ count p n).
-          ap (λ t. cond t (suc (count (among_lowest k p) n)) (count (among_lowest k p) n) + (suc (count p n) - k)) (le_ltb (count p n) k l)
+          ap (λ t. cond t (suc (count (among_lowest k p) n)) (count (among_lowest k p) n) + (suc (count p n) - k)) (le-ltb (count p n) k l)
           ∙ omega (arith, count_lowest k p n))
           (cases_lt (count p n) k)
       | false ↦ count_lowest k p n

@@ -1,6 +1,6 @@
 -- A rebuild with the right lengths, enough held blocks and a right number is not refused. Assumes nothing.
 use Rattle.std.proofs.Common.{◌≡◌, ℕ, ◌+◌, ◌*◌, ◌<◌, ◌≤◌, Bool, true, false, not, ◌||◌, eqb, ltb, leb, List, length, None, Option, sym, refl, ap, ◌∙◌}
-use Rattle.std.proofs.lemmas.Bool.{eq_eqb, le_ltb, lt_leb}
+use Rattle.std.proofs.lemmas.Bool.{eq-eqb, le-ltb, lt-leb}
 use Rattle.refusal.specs.Answer.{refuse}
 use Rattle.refusal.specs.declared.kind.Refusal.{Refusal}
 use Rattle.refusal.specs.declared.kind.Refusal.TheVariants.{Length, TooFewBlocks, BlockNumber}
@@ -17,9 +17,9 @@ module _ (c : Coding) (i : ℕ) (marks : List ℕ) (given room : ℕ)
   pub past_lengths : rebuild_refusal c i marks given room
       ≡ refuse (ltb (count (marks_held marks) (length marks)) c.k) TooFewBlocks (refuse (leb (c.k + c.m) i) BlockNumber None)
   past_lengths =
-      refuse_later _ Length _ (none_wrong _ _ _ (eq_eqb (length marks) (c.k + c.m) flags) (eq_eqb given ((c.k + c.m) * 64) long) (eq_eqb room 64 block))
+      refuse_later _ Length _ (none_wrong _ _ _ (eq-eqb (length marks) (c.k + c.m) flags) (eq-eqb given ((c.k + c.m) * 64) long) (eq-eqb room 64 block))
 
   pub accepted : c.k ≤ count (marks_held marks) (length marks) → i < c.k + c.m → rebuild_refusal c i marks given room ≡ None
   accepted enough below =
-      past_lengths ∙ refuse_later _ TooFewBlocks _ (le_ltb (count (marks_held marks) (length marks)) c.k enough)
-      ∙ refuse_later _ BlockNumber None (lt_leb (c.k + c.m) i below)
+      past_lengths ∙ refuse_later _ TooFewBlocks _ (le-ltb (count (marks_held marks) (length marks)) c.k enough)
+      ∙ refuse_later _ BlockNumber None (lt-leb (c.k + c.m) i below)

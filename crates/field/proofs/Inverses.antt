@@ -1,6 +1,6 @@
 -- The inverse. Assumes nothing.
 use Rattle.std.proofs.Common.{◌≡◌, ℕ, zero, suc, ◌+◌, ◌-◌, ◌%◌, ◌<◌, ◌≤◌, Bool, true, false, cond, eqb, Some, None, unwrap_or, sym, refl, ap, ◌∙◌, subst, ap₂, ⊎_elim, arith, lit<, lit≤}
-use Rattle.std.proofs.lemmas.Bool.{eqb_true, eqb_false, eq_eqb, ne_eqb, cases_eq}
+use Rattle.std.proofs.lemmas.Bool.{eqb-true, eqb-false, eq-eqb, ne_eqb, cases_eq}
 use Rattle.field.specs.Field.{mul, carryless, reduced, power_of, doubled, partner, reciprocal}
 use Rattle.field.specs.Laws.{FieldLaws}
 use Rattle.field.proofs.Linear.{mul_xor_right}
@@ -21,9 +21,9 @@ partner_right zero a b h e = absurd (omega arith)
 partner_right (suc n) a b h e = go (eqb (mul a n) 1) refl (λ k. partner_right n a b k e)
   where
     go : (t : Bool) → eqb (mul a n) 1 ≡ t → (b < n → mul a (partner n a) ≡ 1) → mul a (cond t n (partner n a)) ≡ 1
-    go true q ih = eqb_true (mul a n) 1 q
+    go true q ih = eqb-true (mul a n) 1 q
     go false q ih =
-        let ne : b ≡ n → ⊥ = λ z. eqb_false (mul a n) 1 q (ap (mul a) (sym z) ∙ e) in
+        let ne : b ≡ n → ⊥ = λ z. eqb-false (mul a n) 1 q (ap (mul a) (sym z) ∙ e) in
         ih (omega arith)
 
 partner_byte : (n a : ℕ) → n ≤ 256 → partner n a < 256
@@ -55,7 +55,7 @@ inverse_only a b p ha hb e =
 -- what the code makes of an answer of `inverse`
 pub inverse_or_zero : (a : ℕ) → unwrap_or (cond (eqb a 0) None (Some (reciprocal a))) 0 ≡ reciprocal a
 inverse_or_zero a =
-    ⊎_elim (λ e. ap (λ b. unwrap_or (cond b None (Some (reciprocal a))) 0) (eq_eqb a 0 e) ∙ sym (ap reciprocal e ∙ inverse_zero))
+    ⊎_elim (λ e. ap (λ b. unwrap_or (cond b None (Some (reciprocal a))) 0) (eq-eqb a 0 e) ∙ sym (ap reciprocal e ∙ inverse_zero))
     (λ ne. ap (λ b. unwrap_or (cond b None (Some (reciprocal a))) 0) (ne_eqb a 0 ne)) (cases_eq a 0)
 
 pub field_laws : FieldLaws

@@ -1,5 +1,5 @@
 -- The powers of 2 and their logarithms. Assumes nothing.
-use Rattle.std.proofs.Common.{◌≡◌, ℕ, zero, suc, ◌+◌, ◌-◌, ◌*◌, ◌/◌, ◌%◌, ◌<◌, ◌≤◌, cond, eqb, ltb, sym, refl, ap, ◌∙◌, subst, ap₂, add_zero, mod_lt, suc_add, div_add_mod', zero_add, zero_mul, arith, lit<, eqb→eq, ltb→lt}
+use Rattle.std.proofs.Common.{◌≡◌, ℕ, zero, suc, ◌+◌, ◌-◌, ◌*◌, ◌/◌, ◌%◌, ◌<◌, ◌≤◌, cond, eqb, ltb, sym, refl, ap, ◌∙◌, subst, ap₂, add-zero, mod-lt, suc-add, div-add-mod', zero-add, zero-mul, arith, lit<, eqb→eq, ltb→lt}
 use Rattle.field.specs.Field.{mul, carryless, reduced, power_of, doubled}
 use Rattle.field.proofs.Computed.{below}
 use Rattle.field.proofs.Laws.{mul_byte, mul_assoc, mul_comm, one_mul, mul_one}
@@ -21,23 +21,23 @@ power_next i = doubled_mul (power_of i) (power_byte i)
 -- the rule carried to all products of powers
 pub power_add : (i j : ℕ) → mul (power_of i) (power_of j) ≡ power_of (i + j)
 unfolding power_of
-power_add zero j = one_mul (power_of j) (power_byte j) ∙ ap power_of (sym (zero_add j))
+power_add zero j = one_mul (power_of j) (power_byte j) ∙ ap power_of (sym (zero-add j))
 power_add (suc i) j =
     ap (λ x. mul x (power_of j)) (power_next i) ∙ mul_assoc 2 (power_of i) (power_of j) ∙ ap (mul 2) (power_add i j)
-    ∙ sym (power_next (i + j)) ∙ ap power_of (sym (suc_add i j))
+    ∙ sym (power_next (i + j)) ∙ ap power_of (sym (suc-add i j))
 
 power_around : (n : ℕ) → power_of (n + 255) ≡ power_of n
 unfolding power_of doubled
 power_around n = sym (power_add n 255) ∙ mul_one (power_of n) (power_byte n)
 
 power_rounds : (q r : ℕ) → power_of (q * 255 + r) ≡ power_of r
-power_rounds zero r = simp (zero_mul, zero_add)
+power_rounds zero r = simp (zero-mul, zero-add)
 power_rounds (suc q) r =
     let e : suc q * 255 + r ≡ (q * 255 + r) + 255 = omega arith in
     ap power_of e ∙ power_around (q * 255 + r) ∙ power_rounds q r
 
 pub power_mod : (n : ℕ) → power_of (n % 255) ≡ power_of n
-power_mod n = sym (power_rounds (n / 255) (n % 255)) ∙ ap power_of (div_add_mod' n 255)
+power_mod n = sym (power_rounds (n / 255) (n % 255)) ∙ ap power_of (div-add-mod' n 255)
 
 -- the first number from i on whose power is a, where p is the power at i
 log_from : ℕ → ℕ → ℕ → ℕ → ℕ

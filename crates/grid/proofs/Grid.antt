@@ -1,7 +1,7 @@
 -- A sound grid means a lawful store, and what each call makes of a grid is sound and means what the call says.
 use Rattle.std.proofs.Common.{◌≡◌, ℕ, ◌<◌, ◌≤◌, Bool, true, false, cond, not, ◌&&◌, ◌||◌, eqb, ltb, is_some, Some, None, Option, sym, refl, ap, ◌∙◌, subst, arith}
 use mathlib.Core.Path.{fun_ext}
-use Rattle.std.proofs.lemmas.Bool.{eqb_true, eqb_false, ltb_true, ltb_false, lt_ltb, true≢false, false≢true}
+use Rattle.std.proofs.lemmas.Bool.{eqb-true, eqb-false, ltb-true, ltb-false, lt-ltb, true≢false, false≢true}
 use Rattle.store.specs.declared.kinds.Shape.{Shape}
 use Rattle.store.specs.declared.kinds.State.{State}
 use Rattle.store.specs.declared.kinds.State.TheVariants.{Empty, Open, Sealed}
@@ -22,14 +22,14 @@ means_same m k a b c = λ i. record { shape = a i; covers = b i; slot = λ s. c 
 pub by_eqb : (t s : ℕ) (P : Bool → Type 0) → (t ≡ s → P true) → ((t ≡ s → ⊥) → P false) → P (eqb t s)
 by_eqb t s P yes' no' = go (eqb t s) refl where
   go : (b : Bool) → eqb t s ≡ b → P b
-  go true e = yes' (eqb_true t s e)
-  go false e = no' (eqb_false t s e)
+  go true e = yes' (eqb-true t s e)
+  go false e = no' (eqb-false t s e)
 
 pub by_ltb : (a b : ℕ) (P : Bool → Type 0) → (a < b → P true) → (b ≤ a → P false) → P (ltb a b)
 by_ltb a b P yes' no' = go (ltb a b) refl where
   go : (c : Bool) → ltb a b ≡ c → P c
-  go true e = yes' (ltb_true a b e)
-  go false e = no' (ltb_false a b e)
+  go true e = yes' (ltb-true a b e)
+  go false e = no' (ltb-false a b e)
 
 -- by cases on whether two cells are the same
 pub by_same : (t s x n y p : ℕ) (P : Bool → Type 0) → (t ≡ s → x ≡ n → y ≡ p → P true) → P false → P (eqb t s && (eqb x n && eqb y p))
@@ -68,13 +68,13 @@ module _ (g : Grid) (h : Sound g) where
     go true i = h.whole s n p z ((h.tidy s).within n p i) ∙ first (ltb n g.shape.nodes) (is_some (g.cell s n 0)) e
 
   gone_within : (s n : ℕ) → gone g s n ≡ true → n < g.shape.nodes
-  gone_within s n e = ltb_true n g.shape.nodes (go (ltb n g.shape.nodes) e) where
+  gone_within s n e = ltb-true n g.shape.nodes (go (ltb n g.shape.nodes) e) where
     go : (b : Bool) → (b && not (is_some (g.cell s n 0))) ≡ true → b ≡ true
     go true e = refl
     go false e = e
 
   alive_some : (s n p : ℕ) → g.state s ≡ Sealed → Within g.shape n p → is_some (g.cell s n p) ≡ not (gone g s n)
-  alive_some s n p z w = h.whole s n p z w ∙ rw (lt_ltb n g.shape.nodes w.0) (go (is_some (g.cell s n 0))) where
+  alive_some s n p z w = h.whole s n p z w ∙ rw (lt-ltb n g.shape.nodes w.0) (go (is_some (g.cell s n 0))) where
     go : (b : Bool) → b ≡ not (not b)
     go true = refl
     go false = refl
@@ -161,7 +161,7 @@ module _ (g : Grid) (h : Sound g) where
   module _ (n : ℕ) (n< : n < g.shape.nodes) where
     lost_gone : (t x : ℕ) → gone (dropped g n) t x ≡ with_node (gone g t) n x
     lost_gone t x = by_eqb x n (λ b. (ltb x g.shape.nodes && not (is_some (cond b None (g.cell t x 0)))) ≡ (gone g t x || b))
-        (λ i. let l : ltb x g.shape.nodes ≡ true = lt_ltb x g.shape.nodes (subst (λ (a : ℕ). a < g.shape.nodes) (sym i) n<) in ap (λ (a : Bool). a && true) l ∙ or_true (gone g t x))
+        (λ i. let l : ltb x g.shape.nodes ≡ true = lt-ltb x g.shape.nodes (subst (λ (a : ℕ). a < g.shape.nodes) (sym i) n<) in ap (λ (a : Bool). a && true) l ∙ or_true (gone g t x))
         (λ i. or_false (gone g t x))
 
     kept_cell : (t x p : ℕ) (d : Bool) → g.state t ≡ Sealed → gone g t x ≡ d → g.cell t x p ≡ cond (not (d || false)) (g.cell t x p) None

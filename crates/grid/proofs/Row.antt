@@ -1,6 +1,6 @@
 -- The cells of a row that a grid shows.
 use Rattle.std.proofs.Common.{◌≡◌, ℕ, ◌+◌, ◌*◌, ◌<◌, ◌≤◌, Bool, true, false, cond, ◌&&◌, eqb, ltb, leb, Some, None, Option, sym, refl, ap, ◌∙◌}
-use Rattle.std.proofs.lemmas.Bool.{lt_ltb, and_from, and_parts, ltb_true, true≢false}
+use Rattle.std.proofs.lemmas.Bool.{lt-ltb, and_from, and_parts, ltb-true, true≢false}
 use Rattle.store.specs.declared.kinds.Shape.{Shape}
 use Rattle.store.specs.declared.kinds.State.{State}
 use Rattle.block.specs.Block.{Block}
@@ -17,8 +17,8 @@ by_inside h s n p P f k = go (inside h s n p) refl where
   go true e =
       let a = and_parts (ltb s h.slots) (ltb n h.nodes && ltb p h.places) e in
       let q = and_parts (ltb n h.nodes) (ltb p h.places) a.1 in
-      f (ltb_true s h.slots a.0) (ltb_true n h.nodes q.0) (ltb_true p h.places q.1)
-  go false e = k (λ s< n< p<. true≢false (sym (and_from _ _ (lt_ltb s h.slots s<) (and_from _ _ (lt_ltb n h.nodes n<) (lt_ltb p h.places p<))) ∙ e))
+      f (ltb-true s h.slots a.0) (ltb-true n h.nodes q.0) (ltb-true p h.places q.1)
+  go false e = k (λ s< n< p<. true≢false (sym (and_from _ _ (lt-ltb s h.slots s<) (and_from _ _ (lt-ltb n h.nodes n<) (lt-ltb p h.places p<))) ∙ e))
 
 none_both : (b : Bool) → ◌≡◌ {A = Option Block} None (cond b None None)
 none_both true = refl
@@ -26,7 +26,7 @@ none_both false = refl
 
 module _ (h : Shape) (marks : ℕ → State) (row : Row) (s n p : ℕ) (s< : s < h.slots) (n< : n < h.nodes) (p< : p < h.places) where
   pub row_at : (rowed h marks row).cell s n p ≡ row (index h s n p)
-  row_at = rw (lt_ltb s h.slots s<, lt_ltb n h.nodes n<, lt_ltb p h.places p<)
+  row_at = rw (lt-ltb s h.slots s<, lt-ltb n h.nodes n<, lt-ltb p h.places p<)
 
 module _ (h : Shape) (marks marks' : ℕ → State) (row row' : Row) where
   pub row_same : ((i : ℕ) → i < total h → row' i ≡ row i) → (s n p : ℕ) → (rowed h marks' row').cell s n p ≡ (rowed h marks row).cell s n p

@@ -1,6 +1,6 @@
 -- The cells that an image holds, one more. Assumes nothing.
-use Rattle.std.proofs.Common.{◌≡◌, ℕ, ◌+◌, ◌<◌, Bool, true, false, not, leb, List, is_some, is_ok, Some, None, Ok, Err, Result, sym, refl, ap, ◌∙◌, add_one, arith, Bor}
-use Rattle.std.proofs.lemmas.Bool.{lt_leb}
+use Rattle.std.proofs.Common.{◌≡◌, ℕ, ◌+◌, ◌<◌, Bool, true, false, not, leb, List, is_some, is_ok, Some, None, Ok, Err, Result, sym, refl, ap, ◌∙◌, add-one, arith, Bor}
+use Rattle.std.proofs.lemmas.Bool.{lt-leb}
 use Rattle.refusal.specs.declared.kind.Refusal.{Refusal}
 use Rattle.refusal.specs.declared.kind.Refusal.TheVariants.{Node, Place, Slot as BadSlot, Missing}
 use Rattle.refusal.specs.Answer.{refuse}
@@ -31,9 +31,9 @@ pub handed :
 handed m s n p (Ok x) b is s< n< p< h = ap is_some h.1 ∙ sym is
 handed m s n p (Err f) b is s< n< p< h =
     gap (m.slot s) n p f
-    (sym (refuse_later (leb m.shape.nodes n) Node _ (lt_leb m.shape.nodes n n<)
-    ∙ refuse_later (leb m.shape.places p) Place _ (lt_leb m.shape.places p p<)
-    ∙ refuse_later (leb m.shape.slots s) BadSlot (cell_refusal (m.slot s) n p) (lt_leb m.shape.slots s s<)) ∙ h) ∙ sym is
+    (sym (refuse_later (leb m.shape.nodes n) Node _ (lt-leb m.shape.nodes n n<)
+    ∙ refuse_later (leb m.shape.places p) Place _ (lt-leb m.shape.places p p<)
+    ∙ refuse_later (leb m.shape.slots s) BadSlot (cell_refusal (m.slot s) n p) (lt-leb m.shape.slots s s<)) ∙ h) ∙ sym is
 
 -- one place more, with a block or without
 pub place_more : (f : ℕ → Bool) (k old new : ℕ) → old ≡ count f k → f k ≡ true → new ≡ old + 1 → new ≡ count f (k + 1)
@@ -44,4 +44,4 @@ place_skip f k old new was t is = is ∙ was ∙ sym (count_skip f k t)
 
 -- one node more
 pub node_more : (r : ImageReader) (s k old more : ℕ) → old ≡ of_nodes r s k → more ≡ of_node r s k → old + more ≡ of_nodes r s (k + 1)
-node_more r s k old more was is = rw add_one (ap (λ x. x + more) was ∙ ap (λ y. of_nodes r s k + y) is)
+node_more r s k old more was is = rw add-one (ap (λ x. x + more) was ∙ ap (λ y. of_nodes r s k + y) is)

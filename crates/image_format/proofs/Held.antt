@@ -1,6 +1,6 @@
 -- What an image shows is what it holds, and an image that holds a sound grid is sound. Assumes nothing.
-use Rattle.std.proofs.Common.{◌≡◌, ℕ, ◌*◌, ◌<◌, cond, List, length, get_or, Some, None, Option, sym, refl, ap, ◌∙◌, add_zero, arith}
-use Rattle.std.proofs.lemmas.Bool.{cond_false, le_ltb}
+use Rattle.std.proofs.Common.{◌≡◌, ℕ, ◌*◌, ◌<◌, cond, List, length, get_or, Some, None, Option, sym, refl, ap, ◌∙◌, add-zero, arith}
+use Rattle.std.proofs.lemmas.Bool.{cond-false, le-ltb}
 use Rattle.store.specs.declared.kinds.Shape.{Shape}
 use Rattle.store.specs.declared.kinds.State.{State}
 use Rattle.store.specs.declared.kinds.State.TheVariants.{Empty, Open, Sealed}
@@ -29,11 +29,11 @@ pub record Becomes (h : Shape) (img : List ℕ) (m : Meaning) : Type 0 where
   pub becomes : means (grid_at h img) ≡ m
 
 pub held : (h : Shape) (img : List ℕ) → SoundImage h img → Holds h img (marks_of h img) (row_of h img)
-held h img k = record { length = k.length; heads = k.heads; records = k.records; past = λ s l. cond_false _ _ _ (le_ltb s h.slots l) }
+held h img k = record { length = k.length; heads = k.heads; records = k.records; past = λ s l. cond-false _ _ _ (le-ltb s h.slots l) }
 
 module _ (h : Shape) (img : List ℕ) (marks : ℕ → State) (row : Row) (k : Holds h img marks row) where
   first_byte : (t : ℕ) → t < h.slots → get_or img (8 * t) 0 ≡ get_or (head_of (marks t)) 0 0
-  first_byte t t< = sym (get_d_part img (8 * t) 8 0 0 (omega (arith, k.length)) (omega arith) ∙ ap (λ (j : ℕ). get_or img j 0) (add_zero (8 * t))) ∙ ap (λ (bs : List ℕ). get_or bs 0 0) (k.heads t t<)
+  first_byte t t< = sym (get_d_part img (8 * t) 8 0 0 (omega (arith, k.length)) (omega arith) ∙ ap (λ (j : ℕ). get_or img j 0) (add-zero (8 * t))) ∙ ap (λ (bs : List ℕ). get_or bs 0 0) (k.heads t t<)
 
   pub marks_held : (t : ℕ) → marks_of h img t ≡ marks t
   marks_held t = by_ltb t h.slots (λ b. cond b (state_from (get_or img (8 * t) 0)) Empty ≡ marks t) (λ t<. ap state_from (first_byte t t<) ∙ state_back (marks t)) (λ l. sym (k.past t l))

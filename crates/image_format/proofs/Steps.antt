@@ -1,6 +1,6 @@
 -- What each call of a store makes of a sound image: one that is sound and means what the call says. Assumes nothing.
 use Rattle.std.proofs.Common.{◌≡◌, ℕ, ◌+◌, ◌*◌, ◌<◌, Bool, cond, eqb, List, ◌∷◌, length, replicate, Some, None, sym, refl, ap, ◌∙◌}
-use Rattle.std.proofs.lemmas.Bool.{lt_ltb, eq_eqb}
+use Rattle.std.proofs.lemmas.Bool.{lt-ltb, eq-eqb}
 use Rattle.store.specs.declared.kinds.Shape.{Shape}
 use Rattle.store.specs.declared.kinds.State.TheVariants.{Empty, Open, Sealed}
 use Rattle.block.specs.Block.{Block, IsBlock}
@@ -45,7 +45,7 @@ module _ (h : Shape) (xs ys : List ℕ) (k : SoundImage h xs) (same : length ys 
 
   module _ (n : ℕ) (n< : n < h.nodes) (g : Holds h ys (marks_of h xs) (without h h.slots n (row_of h xs))) where
     lost : (t x y : ℕ) → t < h.slots → x < h.nodes → y < h.places → without h h.slots n (row_of h xs) (index h t x y) ≡ cond (eqb x n) None (row_of h xs (index h t x y))
-    lost t x y t< x< y< = ap (λ (b : Bool). cond b None (row_of h xs (index h t x y))) (rw (index_slot h t x y x< y<, index_node h t x y x< y<, lt_ltb t h.slots t<))
+    lost t x y t< x< y< = ap (λ (b : Bool). cond b None (row_of h xs (index h t x y))) (rw (index_slot h t x y x< y<, index_node h t x y x< y<, lt-ltb t h.slots t<))
 
     pub lose_image : Becomes h ys (losing (means (grid_at h xs)) n)
     lose_image =
@@ -56,7 +56,7 @@ module _ (h : Shape) (xs ys : List ℕ) (k : SoundImage h xs) (same : length ys 
     -- the records of a lost node are zeros
     pub lose_wiped : (s p : ℕ) → s < h.slots → p < h.places → record_at h ys (index h s n p) ≡ replicate 72 0
     lose_wiped s p s< p< =
-        g.records (index h s n p) (index_below h s n p n< p< s<) ∙ ap (record_of h (index h s n p)) (lost s n p s< n< p< ∙ ap (λ (b : Bool). cond b None (row_of h xs (index h s n p))) (eq_eqb n n refl))
+        g.records (index h s n p) (index_below h s n p n< p< s<) ∙ ap (record_of h (index h s n p)) (lost s n p s< n< p< ∙ ap (λ (b : Bool). cond b None (row_of h xs (index h s n p))) (eq-eqb n n refl))
 
 pub new_image : (h : Shape) (xs ys : List ℕ) → length ys ≡ length xs → length xs ≡ size h → Limits h → Wiped xs ys 0 (length xs) → Becomes h ys (vacant h bare)
 new_image h xs ys same l limits w =

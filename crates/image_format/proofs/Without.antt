@@ -1,6 +1,6 @@
 -- Wiping a node's records in one more slot. Assumes nothing.
-use Rattle.std.proofs.Common.{◌≡◌, ℕ, zero, suc, ◌+◌, ◌*◌, ◌/◌, ◌%◌, ◌<◌, Bool, true, false, cond, ◌&&◌, eqb, ltb, leb, None, Option, ap, ◌∙◌, subst, mul_zero, arith}
-use Rattle.std.proofs.lemmas.Nat.{div_add_mod', mod_below}
+use Rattle.std.proofs.Common.{◌≡◌, ℕ, zero, suc, ◌+◌, ◌*◌, ◌/◌, ◌%◌, ◌<◌, Bool, true, false, cond, ◌&&◌, eqb, ltb, leb, None, Option, ap, ◌∙◌, subst, mul-zero, arith}
+use Rattle.std.proofs.lemmas.Nat.{div-add-mod', mod_below}
 use Rattle.std.proofs.lemmas.Bool.Decides.{nat_tests}
 use Rattle.store.specs.declared.kinds.Shape.{Shape}
 use Rattle.block.specs.Block.{Block}
@@ -10,12 +10,12 @@ use Rattle.grid.proofs.Index.{in_node}
 use Rattle.image_format.specs.Image.{without}
 
 right_pos : (a b i : ℕ) → i < a * b → 0 < b
-right_pos a zero i l = absurd (omega (arith, mul_zero a))
+right_pos a zero i l = absurd (omega (arith, mul-zero a))
 right_pos a (suc b) i l = omega arith
 
 -- every number of a record is that of a cell
 index_back : (h : Shape) (i : ℕ) → index h (i / h.places / h.nodes) (i / h.places % h.nodes) (i % h.places) ≡ i
-index_back h i = ap (λ (r : ℕ). r * h.places + i % h.places) (div_add_mod' (i / h.places) h.nodes) ∙ div_add_mod' i h.places
+index_back h i = ap (λ (r : ℕ). r * h.places + i % h.places) (div-add-mod' (i / h.places) h.nodes) ∙ div-add-mod' i h.places
 
 more : (s t : ℕ) (b : Bool) (a : Option Block) → cond (eqb s t && b) None (cond (ltb s t && b) None a) ≡ cond (ltb s (t + 1) && b) None a
 more s t true a = grind (arith, nat_tests)

@@ -1,6 +1,6 @@
 -- What an image holds after a head is written, a block is put, or records are wiped. Assumes nothing.
 use Rattle.std.proofs.Common.{◌≡◌, ℕ, ◌+◌, ◌*◌, ◌<◌, ◌≤◌, Bool, true, false, cond, ◌&&◌, eqb, ltb, leb, ◌⊎◌, List, length, Some, None, refl, ◌∙◌, inl, inr, ⊎_elim, arith}
-use Rattle.std.proofs.lemmas.Bool.{cases_order, and_parts, and_cases, leb_true, leb_false, ltb_true, ltb_false}
+use Rattle.std.proofs.lemmas.Bool.{cases_order, and_parts, and_cases, leb-true, leb-false, ltb-true, ltb-false}
 use Rattle.store.specs.declared.kinds.Shape.{Shape}
 use Rattle.store.specs.declared.kinds.State.{State}
 use Rattle.store.specs.declared.kinds.State.TheVariants.{Empty, Open, Sealed}
@@ -23,8 +23,8 @@ order i j e = ⊎_elim (λ q. absurd (e q)) (λ q. q) (cases_order i j)
 by_range : (a b i : ℕ) (P : Bool → Type 0) → (a ≤ i → i < b → P true) → ((i < a) ⊎ (b ≤ i) → P false) → P (leb a i && ltb i b)
 by_range a b i P yes' no' = go (leb a i && ltb i b) refl where
   go : (c : Bool) → (leb a i && ltb i b) ≡ c → P c
-  go true e = let q = and_parts (leb a i) (ltb i b) e in yes' (leb_true a i q.0) (ltb_true i b q.1)
-  go false e = no' (⊎_elim (λ q. inl (leb_false a i q)) (λ q. inr (ltb_false i b q)) (and_cases (leb a i) (ltb i b) e))
+  go true e = let q = and_parts (leb a i) (ltb i b) e in yes' (leb-true a i q.0) (ltb-true i b q.1)
+  go false e = no' (⊎_elim (λ q. inl (leb-false a i q)) (λ q. inr (ltb-false i b q)) (and_cases (leb a i) (ltb i b) e))
 
 module _ (h : Shape) (xs ys : List ℕ) (marks : ℕ → State) (row : Row) (k : Holds h xs marks row) (same : length ys ≡ length xs) where
   head_fits : (t : ℕ) → t < h.slots → 8 * t + 8 ≤ length xs

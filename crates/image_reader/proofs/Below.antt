@@ -1,11 +1,11 @@
 -- Tests of all the numbers below a bound, or of some. Assumes nothing.
-use Rattle.std.proofs.Common.{◌≡◌, ℕ, zero, suc, ◌+◌, ◌<◌, Bool, true, false, ◌&&◌, ◌||◌, sym, refl, ap, ◌∙◌, ap₂, ⊎_elim, add_one, arith}
+use Rattle.std.proofs.Common.{◌≡◌, ℕ, zero, suc, ◌+◌, ◌<◌, Bool, true, false, ◌&&◌, ◌||◌, sym, refl, ap, ◌∙◌, ap₂, ⊎_elim, add-one, arith}
 use Rattle.std.proofs.lemmas.Bool.{cases_eq, and_from, and_left, and_right, and_parts, or_cases, or_left, or_right, false≢true}
 use Rattle.image_reader.specs.Damage.{all_below, some_below}
 
 module _ (f : ℕ → Bool) where
   pub all_more : (n : ℕ) → all_below f n ≡ true → f n ≡ true → all_below f (n + 1) ≡ true
-  all_more n e h = rw add_one (and_from (all_below f n) (f n) e h)
+  all_more n e h = rw add-one (and_from (all_below f n) (f n) e h)
 
   pub all_fails : (n i : ℕ) → i < n → f i ≡ false → all_below f n ≡ false
   all_fails zero i l e = absurd (omega arith)
@@ -30,7 +30,7 @@ module _ (f : ℕ → Bool) where
       (λ (ne : i ≡ n → ⊥). or_left (some_below f n) (f n) (some_at n i (omega arith) e)) (cases_eq i n)
 
   pub none_more : (n : ℕ) → some_below f n ≡ false → f n ≡ false → some_below f (n + 1) ≡ false
-  none_more n e h = rw add_one (ap₂ ◌||◌ e h)
+  none_more n e h = rw add-one (ap₂ ◌||◌ e h)
 
   pub none_from : (n : ℕ) → ((i : ℕ) → i < n → f i ≡ false) → some_below f n ≡ false
   none_from zero h = refl

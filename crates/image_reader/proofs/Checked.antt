@@ -1,7 +1,7 @@
 -- What the check of an image tells. Assumes nothing.
 use Rattle.std.proofs.Common.{◌≡◌, ℕ, ◌<◌, true, not, eqb, List, length, get_or, Some, None, Option, sym, refl, ap, ◌∙◌, ap₂, arith}
 use Rattle.std.specs.Option.{option_or}
-use Rattle.std.proofs.lemmas.Bool.{eq_eqb}
+use Rattle.std.proofs.lemmas.Bool.{eq-eqb}
 use Rattle.refusal.specs.declared.kind.Refusal.{Refusal}
 use Rattle.refusal.specs.declared.kind.Refusal.TheVariants.{Sizes}
 use Rattle.refusal.proofs.First.{none_left}
@@ -19,7 +19,7 @@ module _ (h : Shape) (img : List ℕ) where
   -- with the right sizes only damage is left to refuse
   pub only_damage : within_limits h ≡ true → length img ≡ size h → image_refusal h img ≡ damage h img
   only_damage l e =
-      ap (λ o. option_or o (damage h img)) (refuse_later _ Sizes _ (ap not l) ∙ refuse_later _ Sizes None (ap not (eq_eqb (length img) (size h) e)))
+      ap (λ o. option_or o (damage h img)) (refuse_later _ Sizes _ (ap not l) ∙ refuse_later _ Sizes None (ap not (eq-eqb (length img) (size h) e)))
 
   pub passed : image_refusal h img ≡ None → ((j : ℕ) → get_or img j 0 < 256) → SoundImage h img
   passed e small =

@@ -1,6 +1,6 @@
 -- The bytes of the worked image. Assumes nothing.
 use Rattle.std.proofs.Common.{◌≡◌, ℕ, ◌+◌, List, [], ◌∷◌, ◌++◌, length, take, drop, replicate, Some, None, sym, refl, ap, ◌∙◌, arith}
-use Rattle.std.proofs.lemmas.List.{take_append_drop, drop_drop, drop_all}
+use Rattle.std.proofs.lemmas.List.{take-append-drop, drop-drop, drop_all}
 use Rattle.store.specs.declared.kinds.State.{State}
 use Rattle.store.specs.declared.kinds.State.TheVariants.{Empty, Open, Sealed}
 use Rattle.store.specs.Meaning.{Meaning, Nodes, Cells}
@@ -11,7 +11,7 @@ use Rattle.image_reader.specs.Example.{small, hurt, expected, ImageExample}
 
 -- a part of a list, and what follows it
 cut : (a b : ℕ) (xs : List ℕ) → drop a xs ≡ take b (drop a xs) ++ drop (a + b) xs
-cut a b xs = sym (take_append_drop b (drop a xs)) ∙ ap (λ ys. take b (drop a xs) ++ ys) (drop_drop b a xs)
+cut a b xs = sym (take-append-drop b (drop a xs)) ∙ ap (λ ys. take b (drop a xs) ++ ys) (drop-drop b a xs)
 
 state_of_as : (z : State) (d : Nodes) (c : Cells) → state_of (slot_as z d c) ≡ z
 state_of_as Empty d c = refl

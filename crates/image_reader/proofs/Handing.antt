@@ -1,6 +1,6 @@
 -- Which block an image reader hands out, and where it lies. Assumes nothing.
 use Rattle.std.proofs.Common.{◌≡◌, ℕ, ◌+◌, ◌<◌, Bool, true, false, List, take, drop, Some, None, Option, sym, refl, ap, ◌∙◌}
-use Rattle.std.proofs.lemmas.List.{drop_take, drop_drop}
+use Rattle.std.proofs.lemmas.List.{drop-take, drop-drop}
 use Rattle.std.proofs.lemmas.Bool.{true≢false}
 use Rattle.refusal.specs.declared.kind.Refusal.TheVariants.{Missing}
 use Rattle.block.specs.Block.{Block}
@@ -22,7 +22,7 @@ use Rattle.image_reader.proofs.Records.{shows_block}
 module _ (h : Shape) (img : List ℕ) (s n p : ℕ) (s< : s < h.slots) (n< : n < h.nodes) (p< : p < h.places) where
   -- the block behind the head of a record
   pub part_of : drop 8 (record_at h img (index h s n p)) ≡ block_part h img s n p
-  part_of = drop_take 8 64 (drop (start h (index h s n p)) img) ∙ ap (take 64) (drop_drop 8 (start h (index h s n p)) img)
+  part_of = drop-take 8 64 (drop (start h (index h s n p)) img) ∙ ap (take 64) (drop-drop 8 (start h (index h s n p)) img)
 
   module _ (in_use : marks_of h img s ≡ Empty → ⊥) where
     cell_is : cells_of ((means (grid_at h img)).slot s) n p ≡ row_of h img (index h s n p)

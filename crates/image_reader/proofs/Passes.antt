@@ -1,9 +1,9 @@
 -- An image that nothing damages is as the format has it, and an image as the format has it is damaged by nothing.
 -- Assumes nothing.
-use Rattle.std.proofs.Common.{◌≡◌, ℕ, zero, suc, ◌+◌, ◌-◌, ◌*◌, ◌/◌, ◌%◌, ◌<◌, ◌≤◌, Bool, true, false, cond, not, ◌&&◌, ◌||◌, eqb, ltb, leb, List, ◌∷◌, length, get_or, take, drop, replicate, is_some, Some, None, Option, unwrap_or, sym, refl, ap, ◌∙◌, subst, ap₂, ⊎_elim, mod_lt, mul_comm, div_lt_iff_lt_mul, div_add_mod', arith, length_drop, length_take}
+use Rattle.std.proofs.Common.{◌≡◌, ℕ, zero, suc, ◌+◌, ◌-◌, ◌*◌, ◌/◌, ◌%◌, ◌<◌, ◌≤◌, Bool, true, false, cond, not, ◌&&◌, ◌||◌, eqb, ltb, leb, List, ◌∷◌, length, get_or, take, drop, replicate, is_some, Some, None, Option, unwrap_or, sym, refl, ap, ◌∙◌, subst, ap₂, ⊎_elim, mod-lt, mul_comm, div-lt_iff_lt-mul, div-add-mod', arith, length-drop, length-take}
 use Rattle.std.specs.Option.{option_or}
-use Rattle.std.proofs.lemmas.List.{get_or_take, get_or_drop, get_or_past}
-use Rattle.std.proofs.lemmas.Bool.{cases_Bool, cases_lt, cond_true, cond_false, lt_ltb, le_ltb, and_parts, not_from_false, not_false, false≢true, true≢false}
+use Rattle.std.proofs.lemmas.List.{get_or-take, get_or-drop, get_or_past}
+use Rattle.std.proofs.lemmas.Bool.{cases_Bool, cases_lt, cond-true, cond-false, lt-ltb, le-ltb, and_parts, not_from_false, not-false, false≢true, true≢false}
 use Rattle.refusal.specs.Answer.{refuse, first}
 use Rattle.refusal.specs.declared.kind.Refusal.{Refusal}
 use Rattle.refusal.specs.declared.kind.Refusal.TheVariants.{Damaged}
@@ -43,32 +43,32 @@ located : (h : Shape) → Limits h → (i : ℕ) → i < total h → Located h i
 located h l i lt =
     let P : 0 < h.places = omega (arith, l.places_least) in
     let N : 0 < h.nodes = omega (arith, l.nodes_least) in
-    let row : i / h.places < h.slots * h.nodes = (div_lt_iff_lt_mul P).1 lt in
+    let row : i / h.places < h.slots * h.nodes = (div-lt_iff_lt-mul P).1 lt in
     record {
-      slot = (div_lt_iff_lt_mul N).1 row;
-      node = mod_lt (i / h.places) N;
-      place = mod_lt i P;
-      back = ap (λ r. r * h.places + i % h.places) (div_add_mod' (i / h.places) h.nodes) ∙ div_add_mod' i h.places;
+      slot = (div-lt_iff_lt-mul N).1 row;
+      node = mod-lt (i / h.places) N;
+      place = mod-lt i P;
+      back = ap (λ r. r * h.places + i % h.places) (div-add-mod' (i / h.places) h.nodes) ∙ div-add-mod' i h.places;
     }
 
 module _ (h : Shape) (limits : Limits h) (img : List ℕ) (long : length img ≡ size h) where
   record_long : (i : ℕ) → i < total h → length (record_at h img i) ≡ 72
-  record_long i l = simp (length_take, length_drop) (omega arith)
+  record_long i l = simp (length-take, length-drop) (omega arith)
 
   head_long : (s : ℕ) → s < h.slots → length (head_at img s) ≡ 8
-  head_long s l = simp (length_take, length_drop) (omega arith)
+  head_long s l = simp (length-take, length-drop) (omega arith)
 
   head_state : (s : ℕ) → s < h.slots → marks_of h img s ≡ state_from (get_or (head_at img s) 0 0)
   head_state s l =
       let q : 8 * s + 0 ≡ 8 * s = omega arith in
-      cond_true (ltb s h.slots) _ _ (lt_ltb s h.slots l)
-      ∙ ap state_from (sym (get_or_take 8 (drop (8 * s) img) 0 0 (omega arith) ∙ get_or_drop (8 * s) img 0 0 ∙ ap (λ x. get_or img x 0) q))
+      cond-true (ltb s h.slots) _ _ (lt-ltb s h.slots l)
+      ∙ ap state_from (sym (get_or-take 8 (drop (8 * s) img) 0 0 (omega arith) ∙ get_or-drop (8 * s) img 0 0 ∙ ap (λ x. get_or img x 0) q))
 
   -- undamaged, so as the format has it
   module _ (none : damage h img ≡ None) (small : (j : ℕ) → get_or img j 0 < 256) where
     heads_good : (s : ℕ) → s < h.slots → good_head (head_at img s) ≡ true
     heads_good s l =
-        not_false (good_head (head_at img s))
+        not-false (good_head (head_at img s))
         (refuse_not (not (good_head (head_at img s))) (Damaged (8 * s)) None
         (first_none (λ s. refuse (not (good_head (head_at img s))) (Damaged (8 * s)) None) h.slots s (none_left (head_damage h img) _ none).0 l))
 
@@ -88,12 +88,12 @@ module _ (h : Shape) (limits : Limits h) (img : List ℕ) (long : length img ≡
 
       -- a present cell, and one that is not
       used : present h img s n p ≡ true → is_empty (marks_of h img s) ≡ false
-      used e = sym (cond_true (present h img s n p) _ _ e) ∙ cells_good s n p s< n< p<
+      used e = sym (cond-true (present h img s n p) _ _ e) ∙ cells_good s n p s< n< p<
 
       absent : present h img s n p ≡ false → (zeros bytes ≡ true) × ((is_sealed (marks_of h img s) && some_below (present h img s n) h.places) ≡ false)
       absent e =
-          let q = or_false (not (zeros bytes)) _ (sym (cond_false (present h img s n p) (is_empty (marks_of h img s)) _ e) ∙ cells_good s n p s< n< p<) in
-          (not_false (zeros bytes) q.0, q.1)
+          let q = or_false (not (zeros bytes)) _ (sym (cond-false (present h img s n p) (is_empty (marks_of h img s)) _ e) ∙ cells_good s n p s< n< p<) in
+          (not-false (zeros bytes) q.0, q.1)
 
       shown : is_some (row_of h img (index h s n p)) ≡ present h img s n p
       shown =
@@ -111,14 +111,14 @@ module _ (h : Shape) (limits : Limits h) (img : List ℕ) (long : length img ≡
 
       block_is : (b : Block) → row_of h img (index h s n p) ≡ Some b → IsBlock b
       block_is b e = subst IsBlock (some_if (eqb (get_or bytes 0 0) 1) (drop 8 bytes) b e) (record {
-        size = simp length_drop (omega (arith, bytes_long));
+        size = simp length-drop (omega (arith, bytes_long));
         bytes = λ j. small_part j;
       })
         where
           small_part : (j : ℕ) → get_or (drop 8 bytes) j 0 < 256
           small_part j =
-              subst (λ x. x < 256) (sym (get_or_drop 8 bytes j 0))
-              (⊎_elim (λ (l : 8 + j < 72). subst (λ x. x < 256) (sym (get_or_take 72 (drop (start h (index h s n p)) img) (8 + j) 0 l ∙ get_or_drop (start h (index h s n p)) img (8 + j) 0)) (small _))
+              subst (λ x. x < 256) (sym (get_or-drop 8 bytes j 0))
+              (⊎_elim (λ (l : 8 + j < 72). subst (λ x. x < 256) (sym (get_or-take 72 (drop (start h (index h s n p)) img) (8 + j) 0 l ∙ get_or-drop (start h (index h s n p)) img (8 + j) 0)) (small _))
               (λ (l : 72 ≤ 8 + j). subst (λ x. x < 256) (sym (get_or_past bytes (8 + j) 0 (omega (arith, bytes_long)))) (omega arith)) (cases_lt (8 + j) 72))
 
     cell_none : (s n p : ℕ) → marks_of h img s ≡ Empty → (grid_at h img).cell s n p ≡ None
@@ -146,7 +146,7 @@ module _ (h : Shape) (limits : Limits h) (img : List ℕ) (long : length img ≡
           blocks = λ n p b. by_inside h s n p (λ t. cond t (row_of h img (index h s n p)) None ≡ Some b → IsBlock b)
               (λ s< n< p< e. block_is s n p s< n< p< b e) (λ _ e. absurd (false≢true (ap is_some e)));
         };
-        past = λ s l. cond_false (ltb s h.slots) _ _ (le_ltb s h.slots l);
+        past = λ s l. cond-false (ltb s h.slots) _ _ (le-ltb s h.slots l);
         vacant = cell_none;
         whole = λ s n p z w. whole_node s n p z w;
       };
@@ -159,7 +159,7 @@ module _ (h : Shape) (limits : Limits h) (img : List ℕ) (long : length img ≡
       where
         sealed_within : (s : ℕ) → marks_of h img s ≡ Sealed → s < h.slots
         sealed_within s z =
-            ⊎_elim (λ l. l) (λ l. let q : Empty ≡ Sealed = sym (cond_false (ltb s h.slots) _ _ (le_ltb s h.slots l)) ∙ z in let w : ◌≡◌ {A = ℕ} 0 1 = cc in absurd (omega arith))
+            ⊎_elim (λ l. l) (λ l. let q : Empty ≡ Sealed = sym (cond-false (ltb s h.slots) _ _ (le-ltb s h.slots l)) ∙ z in let w : ◌≡◌ {A = ℕ} 0 1 = cc in absurd (omega arith))
             (cases_lt s h.slots)
 
         whole_node : (s n p : ℕ) → marks_of h img s ≡ Sealed → Within h n p → is_some ((grid_at h img).cell s n p) ≡ is_some ((grid_at h img).cell s n 0)
@@ -220,9 +220,9 @@ module _ (h : Shape) (img : List ℕ) (k : SoundImage h img) where
       unsealed e Sealed q = none_present s n p s< n< p< q e
 
       at : (o : Option Block) → row_of h img (index h s n p) ≡ o → bad_cell h img s n p ≡ false
-      at (Some v) e = cond_true (present h img s n p) _ _ (present_some s n p s< n< p< v e) ∙ in_use v e (marks_of h img s) refl
+      at (Some v) e = cond-true (present h img s n p) _ _ (present_some s n p s< n< p< v e) ∙ in_use v e (marks_of h img s) refl
       at None e =
-          cond_false (present h img s n p) _ _ (present_none s n p s< n< p< e)
+          cond-false (present h img s n p) _ _ (present_none s n p s< n< p< e)
           ∙ ap₂ (λ a b. not a || b) (ap zeros (blank_none s n p s< n< p< e)) (unsealed e (marks_of h img s) refl)
 
   pub undamaged : damage h img ≡ None

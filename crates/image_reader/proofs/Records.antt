@@ -1,7 +1,7 @@
 -- Heads and records that pass their tests are those of the format, and those of the format pass. Assumes nothing.
 use Rattle.std.proofs.Common.{◌≡◌, ℕ, zero, suc, ◌+◌, ◌<◌, ◌≤◌, Bool, true, false, cond, not, ◌&&◌, eqb, leb, List, [], ◌∷◌, length, get_or, drop, replicate, is_some, Some, None, Option, sym, refl, ap, ◌∙◌, subst, ⊎_elim, arith}
-use Rattle.std.proofs.lemmas.List.{ext_get_or, get_or_replicate}
-use Rattle.std.proofs.lemmas.Bool.{and_parts, and_from, eqb_true, eq_eqb, ne_eqb, leb_true, cases_lt, cond_true, cond_false, false≢true}
+use Rattle.std.proofs.lemmas.List.{ext_get_or, get_or-replicate}
+use Rattle.std.proofs.lemmas.Bool.{and_parts, and_from, eqb-true, eq-eqb, ne_eqb, leb-true, cases_lt, cond-true, cond-false, false≢true}
 use Rattle.block.specs.Block.{Block}
 use Rattle.store.specs.declared.kinds.State.{State}
 use Rattle.store.specs.declared.kinds.State.TheVariants.{Empty, Open, Sealed}
@@ -20,14 +20,14 @@ tail_zeros : (b : ℕ) (xs : List ℕ) → length xs ≡ 7 → all_below (λ j. 
 tail_zeros b xs len e =
     ext_get_or 0 xs (replicate 7 0) len
     (λ j l. let q : 1 + j ≡ suc j = omega arith in
-    ap (λ i. get_or (b ∷ xs) i 0) (sym q) ∙ eqb_true (get_or (b ∷ xs) (1 + j) 0) 0 (all_at (λ j. eqb (get_or (b ∷ xs) (1 + j) 0) 0) 7 e j (omega arith))
-    ∙ sym (get_or_replicate 7 j 0 0 (omega arith)))
+    ap (λ i. get_or (b ∷ xs) i 0) (sym q) ∙ eqb-true (get_or (b ∷ xs) (1 + j) 0) 0 (all_at (λ j. eqb (get_or (b ∷ xs) (1 + j) 0) 0) 7 e j (omega arith))
+    ∙ sym (get_or-replicate 7 j 0 0 (omega arith)))
 
 pub head_good : (bytes : List ℕ) → length bytes ≡ 8 → good_head bytes ≡ true → bytes ≡ head_of (state_from (get_or bytes 0 0))
 head_good [] len e = absurd (omega arith)
 head_good (b ∷ xs) len e =
     let s = and_parts (leb b 2) _ e in
-    ap (λ ys. b ∷ ys) (tail_zeros b xs (omega arith) s.1) ∙ sym (head_of_from b (leb_true b 2 s.0))
+    ap (λ ys. b ∷ ys) (tail_zeros b xs (omega arith) s.1) ∙ sym (head_of_from b (leb-true b 2 s.0))
 
 pub good_head_of : (z : State) → good_head (head_of z) ≡ true
 good_head_of Empty = refl
@@ -51,31 +51,31 @@ record_headed s n p (a ∷ b ∷ c ∷ d ∷ x ∷ y ∷ z ∷ w ∷ rest) len e
     let p2 = and_parts (eqb c n) _ p1.1 in
     let p3 = and_parts (eqb d p) _ p2.1 in
     let zs = all_at (λ j. eqb (get_or (a ∷ b ∷ c ∷ d ∷ x ∷ y ∷ z ∷ w ∷ rest) (4 + j) 0) 0) 4 p3.1 in
-    let e0 = eqb_true a 1 p0.0 in
-    let e1 = eqb_true b s p1.0 in
-    let e2 = eqb_true c n p2.0 in
-    let e3 = eqb_true d p p3.0 in
-    let e4 = eqb_true x 0 (zs 0 (omega arith)) in
-    let e5 = eqb_true y 0 (zs 1 (omega arith)) in
-    let e6 = eqb_true z 0 (zs 2 (omega arith)) in
-    let e7 = eqb_true w 0 (zs 3 (omega arith)) in
+    let e0 = eqb-true a 1 p0.0 in
+    let e1 = eqb-true b s p1.0 in
+    let e2 = eqb-true c n p2.0 in
+    let e3 = eqb-true d p p3.0 in
+    let e4 = eqb-true x 0 (zs 0 (omega arith)) in
+    let e5 = eqb-true y 0 (zs 1 (omega arith)) in
+    let e6 = eqb-true z 0 (zs 2 (omega arith)) in
+    let e7 = eqb-true w 0 (zs 3 (omega arith)) in
     λ i. e0 i ∷ e1 i ∷ e2 i ∷ e3 i ∷ e4 i ∷ e5 i ∷ e6 i ∷ e7 i ∷ rest
 
 pub headed_record : (s n p a b c : ℕ) (v : Block) → a ≡ s → b ≡ n → c ≡ p → headed s n p (1 ∷ a ∷ b ∷ c ∷ 0 ∷ 0 ∷ 0 ∷ 0 ∷ v) ≡ true
 headed_record s n p a b c v ea eb ec =
-    and_from (eqb a s) _ (eq_eqb a s ea) (and_from (eqb b n) _ (eq_eqb b n eb) (and_from (eqb c p) _ (eq_eqb c p ec) refl))
+    and_from (eqb a s) _ (eq-eqb a s ea) (and_from (eqb b n) _ (eq-eqb b n eb) (and_from (eqb c p) _ (eq-eqb c p ec) refl))
 
 -- a record of zeros
 pub record_blank : (bytes : List ℕ) → length bytes ≡ 72 → zeros bytes ≡ true → bytes ≡ replicate 72 0
 record_blank bytes len e =
     ext_get_or 0 bytes (replicate 72 0) len
-    (λ j l. eqb_true (get_or bytes j 0) 0 (all_at (λ j. eqb (get_or bytes j 0) 0) (length bytes) e j l) ∙ sym (get_or_replicate 72 j 0 0 (omega arith)))
+    (λ j l. eqb-true (get_or bytes j 0) 0 (all_at (λ j. eqb (get_or bytes j 0) 0) (length bytes) e j l) ∙ sym (get_or-replicate 72 j 0 0 (omega arith)))
 
 -- what a record shows
 pub shows_block : (s n p : ℕ) (bytes : List ℕ) → headed s n p bytes ≡ true → cell_from bytes ≡ Some (drop 8 bytes)
-shows_block s n p bytes e = cond_true (eqb (get_or bytes 0 0) 1) _ _ (and_parts (eqb (get_or bytes 0 0) 1) _ e).0
+shows_block s n p bytes e = cond-true (eqb (get_or bytes 0 0) 1) _ _ (and_parts (eqb (get_or bytes 0 0) 1) _ e).0
 
 pub shows_nothing : (bytes : List ℕ) → length bytes ≡ 72 → zeros bytes ≡ true → cell_from bytes ≡ None
 shows_nothing bytes len e =
-    let z = eqb_true (get_or bytes 0 0) 0 (all_at (λ j. eqb (get_or bytes j 0) 0) (length bytes) e 0 (omega arith)) in
-    cond_false (eqb (get_or bytes 0 0) 1) _ _ (ne_eqb (get_or bytes 0 0) 1 (λ q. omega arith))
+    let z = eqb-true (get_or bytes 0 0) 0 (all_at (λ j. eqb (get_or bytes j 0) 0) (length bytes) e 0 (omega arith)) in
+    cond-false (eqb (get_or bytes 0 0) 1) _ _ (ne_eqb (get_or bytes 0 0) 1 (λ q. omega arith))

@@ -1,7 +1,7 @@
 -- The polynomial through given values at chosen points, and that every polynomial is the one through its own. Assumes nothing.
 use Rattle.std.proofs.Common.{◌≡◌, ℕ, ◌<◌, ◌≤◌, Bool, true, eqb, sym, ap, ◌∙◌, subst, arith}
 use lib.Bits.{bit_xor, xor_self}
-use Rattle.std.proofs.lemmas.Bool.{and_parts, not_true, eqb_false}
+use Rattle.std.proofs.lemmas.Bool.{and_parts, not-true, eqb-false}
 use Rattle.block.specs.Count.{count}
 use Rattle.field.specs.Field.{mul, reciprocal}
 use Rattle.field.specs.Sums.{summed, multiplied}
@@ -31,7 +31,7 @@ pub others_nonzero : (chosen : ℕ → Bool) (point : ℕ → ℕ) (n m : ℕ) �
 others_nonzero chosen point n m ps h a l =
     multiplied_nonzero (without chosen a) (λ j. bit_xor (point a) (point j)) n
     (λ j k t. points_nonzero point m ps a j l (omega arith)
-    (λ e. eqb_false j a (not_true (eqb j a) (and_parts (chosen j) _ t).1) (sym e)))
+    (λ e. eqb-false j a (not-true (eqb j a) (and_parts (chosen j) _ t).1) (sym e)))
 
 module _ (chosen : ℕ → Bool) (point : ℕ → ℕ) (n : ℕ) (ps : Points point n) where
   pub through_polynomial : (v : ℕ → ℕ) → Polynomial (count chosen n) (through chosen point n v)

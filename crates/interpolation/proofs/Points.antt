@@ -1,7 +1,7 @@
 -- The points of the Cauchy code: they differ, and the products of their differences are not 0. Assumes nothing.
 use Rattle.std.proofs.Common.{◌≡◌, ℕ, ◌+◌, ◌-◌, ◌<◌, ◌≤◌, ltb, refl, ap, ◌∙◌, subst, ap₂, ⊎_elim, arith}
 use lib.Bits.{bit_xor}
-use Rattle.std.proofs.lemmas.Bool.{cond_true, cond_false, lt_ltb, le_ltb, cases_lt}
+use Rattle.std.proofs.lemmas.Bool.{cond-true, cond-false, lt-ltb, le-ltb, cases_lt}
 use Rattle.field.specs.Field.{mul, reciprocal}
 use Rattle.recovery.specs.Rules.{every, coefficient}
 use Rattle.recovery.specs.Weights.{point, gaps}
@@ -11,10 +11,10 @@ use Rattle.interpolation.proofs.Zeros.{Points, points_below, points_nonzero}
 use Rattle.interpolation.proofs.Lagrange.{others_nonzero}
 
 point_data : (k d : ℕ) → d < k → point k d ≡ 16 + d
-point_data k d h = cond_true (ltb d k) _ _ (lt_ltb d k h)
+point_data k d h = cond-true (ltb d k) _ _ (lt-ltb d k h)
 
 point_check : (k c : ℕ) → k ≤ c → point k c ≡ c - k
-point_check k c h = cond_false (ltb c k) _ _ (le_ltb c k h)
+point_check k c h = cond-false (ltb c k) _ _ (le-ltb c k h)
 
 -- the gaps between the point of c and those of the other data
 abbrev pub scale : ℕ → ℕ → ℕ

@@ -1,6 +1,6 @@
 -- Products over the chosen numbers below a bound. Assumes nothing.
-use Rattle.std.proofs.Common.{◌≡◌, ℕ, zero, suc, ◌+◌, ◌<◌, Bool, true, false, cond, not, ◌&&◌, eqb, sym, refl, ap, ◌∙◌, ap₂, ⊎_elim, add_one, arith, lit<}
-use Rattle.std.proofs.lemmas.Bool.{cases_eq, cond_true, cond_false, eq_eqb, ne_eqb, and_right, not_from_true}
+use Rattle.std.proofs.Common.{◌≡◌, ℕ, zero, suc, ◌+◌, ◌<◌, Bool, true, false, cond, not, ◌&&◌, eqb, sym, refl, ap, ◌∙◌, ap₂, ⊎_elim, add-one, arith, lit<}
+use Rattle.std.proofs.lemmas.Bool.{cases_eq, cond-true, cond-false, eq-eqb, ne_eqb, and_right, not_from_true}
 use Rattle.block.specs.Count.{count}
 use Rattle.block.proofs.Counts.{count_same}
 use Rattle.field.specs.Field.{mul}
@@ -13,7 +13,7 @@ abbrev pub without : (ℕ → Bool) → ℕ → ℕ → Bool
 without chosen a j = chosen j && not (eqb j a)
 
 pub without_itself : (chosen : ℕ → Bool) (a j : ℕ) → j ≡ a → without chosen a j ≡ false
-without_itself chosen a j e = and_right (chosen j) _ (not_from_true (eqb j a) (eq_eqb j a e))
+without_itself chosen a j e = and_right (chosen j) _ (not_from_true (eqb j a) (eq-eqb j a e))
 
 and_true : (b : Bool) → (b && true) ≡ b
 and_true true = refl
@@ -25,11 +25,11 @@ without_other chosen a j ne = ap (λ b. chosen j && not b) (ne_eqb j a ne) ∙ a
 -- one number more, chosen or not
 pub multiplied_more : (chosen : ℕ → Bool) (f : ℕ → ℕ) (n : ℕ) → chosen n ≡ true → multiplied chosen f (n + 1) ≡ mul (multiplied chosen f n) (f n)
 unfolding multiplied
-multiplied_more chosen f n t = rw add_one (cond_true (chosen n) _ _ t)
+multiplied_more chosen f n t = rw add-one (cond-true (chosen n) _ _ t)
 
 pub multiplied_skip : (chosen : ℕ → Bool) (f : ℕ → ℕ) (n : ℕ) → chosen n ≡ false → multiplied chosen f (n + 1) ≡ multiplied chosen f n
 unfolding multiplied
-multiplied_skip chosen f n t = rw add_one (cond_false (chosen n) _ _ t)
+multiplied_skip chosen f n t = rw add-one (cond-false (chosen n) _ _ t)
 
 pub multiplied_same : (p q : ℕ → Bool) (f : ℕ → ℕ) (n : ℕ) → ((i : ℕ) → i < n → p i ≡ q i) → multiplied p f n ≡ multiplied q f n
 unfolding multiplied
@@ -42,7 +42,7 @@ unfolding multiplied
 multiplied_zero chosen f zero a l t z = absurd (omega arith)
 multiplied_zero chosen f (suc n) a l t z =
     ⊎_elim
-    (λ (e : n ≡ a). cond_true (chosen n) _ _ (ap chosen e ∙ t) ∙ ap (mul (multiplied chosen f n)) (ap f e ∙ z) ∙ mul_zero _)
+    (λ (e : n ≡ a). cond-true (chosen n) _ _ (ap chosen e ∙ t) ∙ ap (mul (multiplied chosen f n)) (ap f e ∙ z) ∙ mul_zero _)
     (λ (ne : n ≡ a → ⊥).
     let below : multiplied chosen f n ≡ 0 = multiplied_zero chosen f n a (omega arith) t z in
     elim (chosen n) as (λ b. cond b (mul (multiplied chosen f n) (f n)) (multiplied chosen f n) ≡ 0)
@@ -64,9 +64,9 @@ module _ (chosen : ℕ → Bool) (a : ℕ) (t : chosen a ≡ true) where
   multiplied_out f zero l = absurd (omega arith)
   multiplied_out f (suc n) l =
       ⊎_elim
-      (λ (e : n ≡ a). cond_true (chosen n) _ _ (ap chosen e ∙ t) ∙ mul_comm _ _
+      (λ (e : n ≡ a). cond-true (chosen n) _ _ (ap chosen e ∙ t) ∙ mul_comm _ _
       ∙ ap₂ mul (ap f e) (multiplied_same chosen (without chosen a) f n (λ i k. sym (without_other chosen a i (λ q. omega arith)))
-      ∙ sym (cond_false (without chosen a n) _ _ (without_itself chosen a n e))))
+      ∙ sym (cond-false (without chosen a n) _ _ (without_itself chosen a n e))))
       (λ (ne : n ≡ a → ⊥).
       let below : multiplied chosen f n ≡ mul (f a) (multiplied (without chosen a) f n) = multiplied_out f n (omega arith) in
       (elim (chosen n) as (λ b. cond b (mul (multiplied chosen f n) (f n)) (multiplied chosen f n)
@@ -79,9 +79,9 @@ module _ (chosen : ℕ → Bool) (a : ℕ) (t : chosen a ≡ true) where
   count_out zero l = absurd (omega arith)
   count_out (suc n) l =
       ⊎_elim
-      (λ (e : n ≡ a). cond_true (chosen n) _ _ (ap chosen e ∙ t)
+      (λ (e : n ≡ a). cond-true (chosen n) _ _ (ap chosen e ∙ t)
       ∙ ap suc (count_same chosen (without chosen a) n (λ i k. sym (without_other chosen a i (λ q. omega arith)))
-      ∙ sym (cond_false (without chosen a n) _ _ (without_itself chosen a n e))))
+      ∙ sym (cond-false (without chosen a n) _ _ (without_itself chosen a n e))))
       (λ (ne : n ≡ a → ⊥).
       let below : count chosen n ≡ suc (count (without chosen a) n) = count_out n (omega arith) in
       (elim (chosen n) as (λ b. cond b (suc (count chosen n)) (count chosen n)

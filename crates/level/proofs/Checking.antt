@@ -1,7 +1,7 @@
 -- The check of a stripe whose data were read. Assumes nothing.
-use Rattle.std.proofs.Common.{◌≡◌, ℕ, ◌+◌, ◌-◌, ◌*◌, ◌<◌, ◌≤◌, true, false, cond, eqb, ltb, leb, List, length, take, drop, Some, None, Option, Result, sym, refl, ap, ◌∙◌, ap₂, ⊎_elim, arith, length_drop, length_take}
+use Rattle.std.proofs.Common.{◌≡◌, ℕ, ◌+◌, ◌-◌, ◌*◌, ◌<◌, ◌≤◌, true, false, cond, eqb, ltb, leb, List, length, take, drop, Some, None, Option, Result, sym, refl, ap, ◌∙◌, ap₂, ⊎_elim, arith, length-drop, length-take}
 use mathlib.Core.Path.{fun_ext}
-use Rattle.std.proofs.lemmas.Bool.{lt_leb, lt_ltb, le_ltb, eq_eqb, cond_true, cond_false, cases_lt}
+use Rattle.std.proofs.lemmas.Bool.{lt-leb, lt-ltb, le-ltb, eq-eqb, cond-true, cond-false, cases_lt}
 use Rattle.refusal.specs.declared.kind.Refusal.{Refusal}
 use Rattle.refusal.proofs.Turning.{turned}
 use Rattle.code.specs.Word.{Coding}
@@ -24,12 +24,12 @@ module _ (l : Layout) (c : Cells) (bytes : List ℕ) (read : Collected l c l.nod
       let n = node_of l s i in
       let p = place_of l s i in
       let part = take (l.k * 64) (drop (start_of l s * 64) bytes) in
-      cond_true (ltb i l.k) (Some (block_at part i)) None (lt_ltb i l.k lt)
+      cond-true (ltb i l.k) (Some (block_at part i)) None (lt-ltb i l.k lt)
       ∙ ap Some (block_of_part (start_of l s) l.k bytes (let d = start_within l s a in omega (arith, d, long)) i lt ∙ ap (block_at bytes) (sym (position_on l s i a (omega arith))))
       ∙ sym (read n p (node_within l s i a) (node_within l s i a) (place_within l s i l.k a lt))
-      ∙ sym (cond_true (ltb i l.k) (c n p) None (lt_ltb i l.k lt)))
+      ∙ sym (cond-true (ltb i l.k) (c n p) None (lt-ltb i l.k lt)))
       (λ (le : l.k ≤ i).
-      cond_false (ltb i l.k) _ None (le_ltb i l.k le) ∙ sym (cond_false (ltb i l.k) (c (node_of l s i) (place_of l s i)) None (le_ltb i l.k le)))
+      cond-false (ltb i l.k) _ None (le-ltb i l.k le) ∙ sym (cond-false (ltb i l.k) (c (node_of l s i) (place_of l s i)) None (le-ltb i l.k le)))
       (cases_lt i l.k))
 
   -- what the code computes from it
@@ -43,9 +43,9 @@ module _ (l : Layout) (c : Cells) (bytes : List ℕ) (read : Collected l c l.nod
       let least = block_least l p l.k at.least in
       let most = block_below l p (l.k + l.m) at.most in
       let room = start_within l s a in
-      let u : eqb (length part) (l.k * 64) ≡ true = eq_eqb (length part) (l.k * 64) (simp (length_take, length_drop) (omega (arith, room, long))) in
-      let v : eqb (length old) 64 ≡ true = eq_eqb (length old) 64 size in
-      let w : leb l.m (block_of l p - l.k) ≡ false = lt_leb l.m (block_of l p - l.k) (omega (arith, least, most)) in
+      let u : eqb (length part) (l.k * 64) ≡ true = eq-eqb (length part) (l.k * 64) (simp (length-take, length-drop) (omega (arith, room, long))) in
+      let v : eqb (length old) 64 ≡ true = eq-eqb (length old) 64 size in
+      let w : leb l.m (block_of l p - l.k) ≡ false = lt-leb l.m (block_of l p - l.k) (omega (arith, least, most)) in
       let none : check_refusal (fitted l K) (block_of l p - l.k) (length part) (length old) ≡ None = rw (u, v, w) in
       let number : l.k + (block_of l p - l.k) ≡ block_of l p = omega (arith, least) in
       turned _ _ _ _ _ q none ∙ ap₂ K.whole (stripe_data s a) number

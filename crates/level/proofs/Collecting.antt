@@ -1,9 +1,9 @@
 -- Reading all data of a level, stripe after stripe. Assumes nothing.
-use Rattle.std.proofs.Common.{◌≡◌, ℕ, ◌+◌, ◌-◌, ◌*◌, ◌/◌, ◌%◌, ◌<◌, ◌≤◌, Bool, true, false, cond, not, List, length, take, drop, is_some, is_ok, Some, None, Option, Result, sym, refl, ap, ◌∙◌, subst, ap₂, ⊎_elim, mul_assoc, mul_comm, add_mul, arith}
+use Rattle.std.proofs.Common.{◌≡◌, ℕ, ◌+◌, ◌-◌, ◌*◌, ◌/◌, ◌%◌, ◌<◌, ◌≤◌, Bool, true, false, cond, not, List, length, take, drop, is_some, is_ok, Some, None, Option, Result, sym, refl, ap, ◌∙◌, subst, ap₂, ⊎_elim, mul_assoc, mul_comm, add-mul, arith}
 use lib.Arith.{digits_lt, digits_div, digits_mod}
 use borrow.Rule.Slice.PartMut.{put_mid}
-use Rattle.std.proofs.lemmas.Nat.{mul_le}
-use Rattle.std.proofs.lemmas.List.Edits.{length_between}
+use Rattle.std.proofs.lemmas.Nat.{mul-le}
+use Rattle.std.proofs.lemmas.List.Edits.{length-between}
 use Rattle.std.proofs.lemmas.Bool.{cases_eq}
 use Rattle.refusal.specs.Answer.{refuse, first}
 use Rattle.refusal.specs.declared.kind.Refusal.{Refusal}
@@ -39,7 +39,7 @@ module _ (l : Layout) where
   start_within s a =
       let n = (s.group * l.group + s.first) * l.lanes + s.lane in
       let h = stripe_number s a in
-      let d : (n + 1) * l.k ≤ l.nodes * l.lanes * l.k = mul_le (n + 1) l.k (l.nodes * l.lanes) l.k (omega arith) (omega arith) in
+      let d : (n + 1) * l.k ≤ l.nodes * l.lanes * l.k = mul-le (n + 1) l.k (l.nodes * l.lanes) l.k (omega arith) (omega arith) in
       let e : (n + 1) * l.k ≡ n * l.k + l.k = omega arith in
       omega (arith, d, e, all_data)
 
@@ -70,8 +70,8 @@ module _ (l : Layout) where
 
   pub few_data : l.nodes * (l.k * l.lanes) ≤ 4096
   few_data =
-      let w : l.k * l.lanes ≤ 64 = omega (arith, l.room, add_mul l.k l.m l.lanes) in
-      mul_le l.nodes (l.k * l.lanes) 64 64 l.stock.1 w
+      let w : l.k * l.lanes ≤ 64 = omega (arith, l.room, add-mul l.k l.m l.lanes) in
+      mul-le l.nodes (l.k * l.lanes) 64 64 l.stock.1 w
 
   -- no two cells have one position
   pub position_only : (x y n p : ℕ) → x < l.nodes → y < l.k * l.lanes → n < l.nodes → p < l.k * l.lanes
@@ -89,7 +89,7 @@ module _ (l : Layout) where
   part_told m F s n p at s< hn hp bytes new r room q =
       let wide : at + 64 - at ≡ 64 = omega arith in
       let d = data_place l p hp in
-      cell_told m s n p s< (omega (arith, hn, F.nodes)) (omega (arith, d, F.places)) _ new r (length_between bytes at (at + 64) room ∙ wide) q
+      cell_told m s n p s< (omega (arith, hn, F.nodes)) (omega (arith, d, F.places)) _ new r (length-between bytes at (at + 64) room ∙ wide) q
 
   -- one cell more is read
   pub collect_more : (c : Cells) (n p w : ℕ) (bytes new : List ℕ) → n < l.nodes → p < l.k * l.lanes → position_of l n p * 64 ≤ length bytes → w ≡ 64 → length new ≡ 64

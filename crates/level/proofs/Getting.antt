@@ -1,6 +1,6 @@
 -- Getting a cell of the level: what the store beneath answers, or what the stripe gives. Assumes nothing.
 use Rattle.std.proofs.Common.{◌≡◌, ℕ, ◌+◌, ◌*◌, ◌<◌, ◌≤◌, Bool, true, false, cond, not, ◌&&◌, eqb, ltb, leb, ◌⊎◌, List, length, is_some, Some, None, Ok, Err, Option, Result, unwrap_or, sym, refl, ap, ◌∙◌, ap₂, inl, inr, ⊎_elim, arith}
-use Rattle.std.proofs.lemmas.Bool.{lt_leb, leb_false, lt_ltb, cond_true, eqb_true, not_false, false≢true}
+use Rattle.std.proofs.lemmas.Bool.{lt-leb, leb-false, lt-ltb, cond-true, eqb-true, not-false, false≢true}
 use Rattle.std.specs.Option.{option_or}
 use Rattle.refusal.specs.Answer.{refuse, outcome, unless, Turns}
 use Rattle.refusal.specs.declared.kind.Refusal.{Refusal}
@@ -57,7 +57,7 @@ module _ (l : Layout) (K : Coding) (n p : ℕ) (i : inside l n p ≡ true) where
   same_or_gap : (s : Slot) → Same s (level_slot l K.whole s) n p ⊎ Gap s n p
   same_or_gap empty = inl (record { refusal = refl; cell = refl })
   same_or_gap (opened c) =
-      let e : c n p ≡ cond (inside l n p) (c n p) None = sym (cond_true (inside l n p) (c n p) None i) in
+      let e : c n p ≡ cond (inside l n p) (c n p) None = sym (cond-true (inside l n p) (c n p) None i) in
       inl (record { refusal = ap (λ o. refuse (not (is_some o)) (Missing n p) None) e; cell = e })
   same_or_gap (sealed d c) = at (c n p) refl
     where
@@ -66,7 +66,7 @@ module _ (l : Layout) (K : Coding) (n p : ℕ) (i : inside l n p ≡ true) where
       at (Some b) e =
           let word = restored l K.whole (held_of l c (stripe_of l n p)) (block_of l p) in
           let q : c n p ≡ cells_of (level_slot l K.whole (sealed d c)) n p
-          = e ∙ ap (λ o. option_or o word) (sym e) ∙ sym (cond_true (inside l n p) (option_or (c n p) word) None i) in
+          = e ∙ ap (λ o. option_or o word) (sym e) ∙ sym (cond-true (inside l n p) (option_or (c n p) word) None i) in
           inl (record { refusal = ap (λ o. refuse (not (is_some o)) (Missing n p) None) q; cell = q })
 
   -- what the level has at a gap beneath
@@ -75,7 +75,7 @@ module _ (l : Layout) (K : Coding) (n p : ℕ) (i : inside l n p ≡ true) where
   gap_cell (opened c) g = absurd (false≢true g.sealed)
   gap_cell (sealed d c) g =
       let word = restored l K.whole (held_of l c (stripe_of l n p)) (block_of l p) in
-      cond_true (inside l n p) (option_or (c n p) word) None i ∙ ap (λ o. option_or o word) g.none
+      cond-true (inside l n p) (option_or (c n p) word) None i ∙ ap (λ o. option_or o word) g.none
 
   level_sealed : (s : Slot) → is_sealed s ≡ true → is_sealed (level_slot l K.whole s) ≡ true
   level_sealed empty e = e
@@ -94,14 +94,14 @@ module _ (l : Layout) (K : Coding) (b : Meaning) (F : Fits l b.shape) (s n p : �
   below_later : get_refusal b s n p (length old) ≡ later v w (cell_refusal (b.slot s) n p)
   below_later =
       let d = data_place l p hp in
-      let x : leb b.shape.nodes n ≡ false = lt_leb b.shape.nodes n (omega (arith, hn, F.nodes)) in
-      let y : leb b.shape.places p ≡ false = lt_leb b.shape.places p (omega (arith, d, F.places)) in
+      let x : leb b.shape.nodes n ≡ false = lt-leb b.shape.nodes n (omega (arith, hn, F.nodes)) in
+      let y : leb b.shape.places p ≡ false = lt-leb b.shape.places p (omega (arith, d, F.places)) in
       rw (x, y)
 
   level_later : get_refusal (level l K.whole b) s n p (length old) ≡ later v w (cell_refusal (level_slot l K.whole (b.slot s)) n p)
   level_later =
-      let x : leb b.shape.nodes n ≡ false = lt_leb b.shape.nodes n (omega (arith, hn, F.nodes)) in
-      let y : leb (l.k * l.lanes) p ≡ false = lt_leb (l.k * l.lanes) p hp in
+      let x : leb b.shape.nodes n ≡ false = lt-leb b.shape.nodes n (omega (arith, hn, F.nodes)) in
+      let y : leb (l.k * l.lanes) p ≡ false = lt-leb (l.k * l.lanes) p hp in
       rw (x, y)
 
   -- what is not missing in a sealed slot is handed on
@@ -118,7 +118,7 @@ module _ (l : Layout) (K : Coding) (b : Meaning) (F : Fits l b.shape) (s n p : �
       never x y g =
           let e : r ≡ Err (Missing n p) = q.answer ∙ ap (λ f. outcome f tt) (below_later ∙ ap₂ (λ a c. later a c (cell_refusal (b.slot s) n p)) x y
           ∙ sealed_refusal (b.slot s) n p g.sealed ∙ ap (λ o. refuse (not (is_some o)) (Missing n p) None) g.none) in
-          false≢true (sym h ∙ ap₂ (λ z t. is_missing z && t) e (ap₂ ◌&&◌ (lt_ltb s b.shape.slots (leb_false b.shape.slots s x)) g.sealed))
+          false≢true (sym h ∙ ap₂ (λ z t. is_missing z && t) e (ap₂ ◌&&◌ (lt-ltb s b.shape.slots (leb-false b.shape.slots s x)) g.sealed))
 
       both : v ≡ false → w ≡ false → Same (b.slot s) (level_slot l K.whole (b.slot s)) n p
       both x y = ⊎_elim (λ z. z) (λ g. absurd (never x y g)) (same_or_gap l K n p (is_inside l n p hn hp) (b.slot s))
@@ -135,10 +135,10 @@ module _ (l : Layout) (K : Coding) (b : Meaning) (F : Fits l b.shape) (s n p : �
         split false false (Some x) e = absurd (false≢true (sym e))
 
     pub get_long : length old ≡ 64
-    get_long = eqb_true (length old) 64 (not_false (eqb (length old) 64) at_gap.1)
+    get_long = eqb-true (length old) 64 (not-false (eqb (length old) 64) at_gap.1)
 
     pub get_slot : s < b.shape.slots
-    get_slot = leb_false b.shape.slots s at_gap.0
+    get_slot = leb-false b.shape.slots s at_gap.0
 
     pub get_untouched : new ≡ old
     get_untouched = q.leaves ∙ kept (get_refusal b s n p (length old)) ∙ ap (λ o. unwrap_or o old) at_gap.2

@@ -1,7 +1,7 @@
 -- A level keeps the laws of a store. Assumes nothing.
-use Rattle.std.proofs.Common.{◌≡◌, ℕ, ◌+◌, ◌*◌, ◌<◌, ◌≤◌, Bool, true, false, cond, ◌||◌, ltb, leb, is_some, Some, None, Option, sym, refl, ap, ◌∙◌, ap₂, ⊎_elim, add_mul, arith}
-use Rattle.std.proofs.lemmas.Nat.{mul_le}
-use Rattle.std.proofs.lemmas.Bool.{leb_true, le_leb, or_left, or_right, or_cases}
+use Rattle.std.proofs.Common.{◌≡◌, ℕ, ◌+◌, ◌*◌, ◌<◌, ◌≤◌, Bool, true, false, cond, ◌||◌, ltb, leb, is_some, Some, None, Option, sym, refl, ap, ◌∙◌, ap₂, ⊎_elim, add-mul, arith}
+use Rattle.std.proofs.lemmas.Nat.{mul-le}
+use Rattle.std.proofs.lemmas.Bool.{leb-true, le-leb, or_left, or_right, or_cases}
 use Rattle.block.specs.Block.{Block, IsBlock}
 use Rattle.block.specs.Count.{count}
 use Rattle.block.proofs.Counts.{count_same, count_le_of}
@@ -39,8 +39,8 @@ module _ (l : Layout) (m : Meaning) (L : Lawful m) (F : Fits l m.shape) where
 
   level_limits : Limits (level_shape l m.shape)
   level_limits =
-      let some : 1 * 1 ≤ l.k * l.lanes = mul_le 1 1 l.k l.lanes l.few.0 l.lane.0 in
-      let split : (l.k + l.m) * l.lanes ≡ l.k * l.lanes + l.m * l.lanes = add_mul l.k l.m l.lanes in
+      let some : 1 * 1 ≤ l.k * l.lanes = mul-le 1 1 l.k l.lanes l.few.0 l.lane.0 in
+      let split : (l.k + l.m) * l.lanes ≡ l.k * l.lanes + l.m * l.lanes = add-mul l.k l.m l.lanes in
       record {
         nodes_least = L.limits.nodes_least;
         nodes_most = L.limits.nodes_most;
@@ -54,10 +54,10 @@ module _ (l : Layout) (m : Meaning) (L : Lawful m) (F : Fits l m.shape) where
   covered_fewer : (s : Stripe) (d e : Nodes) → Among l s → ((x : ℕ) → e x ≡ true → d x ≡ true)
       → leb l.k (covered_of l m.covers s d) ≡ true → leb l.k (covered_of l m.covers s e) ≡ true
   covered_fewer s d e a sub h =
-      let before = leb_true l.k (covered_of l m.covers s d) h in
+      let before = leb-true l.k (covered_of l m.covers s d) h in
       let more = count_le_of (λ i. m.covers (node_of l s i) (place_of l s i) d) (λ i. m.covers (node_of l s i) (place_of l s i) e) w
       (λ i lt. L.fewer (node_of l s i) (place_of l s i) d e (block_within s i a lt) sub) in
-      le_leb l.k (covered_of l m.covers s e) (omega arith)
+      le-leb l.k (covered_of l m.covers s e) (omega arith)
 
   -- as many blocks of a stripe are there as the rule covers
   pub held_covered : (s : Stripe) (d : Nodes) (c : Cells) → Among l s
@@ -83,7 +83,7 @@ module _ (l : Layout) (m : Meaning) (L : Lawful m) (F : Fits l m.shape) where
           let lt = data_place l p (inside_is l n p ways.0).1 in
           ⊎_elim (t.blocks n p b)
           (λ r. rw (← r.1) (D.completes.blocks (K.whole (lowest l.k h)) (block_of l p)
-          (whole_word l K D h (held_blocks l K D m.shape c t s) (leb_true l.k (count_held h w) r.0)) (block_below l p w lt)))
+          (whole_word l K D h (held_blocks l K D m.shape c t s) (leb-true l.k (count_held h w) r.0)) (block_below l p w lt)))
           ways.1;
     }
 

@@ -1,7 +1,7 @@
 -- Losing a node beneath is losing it in the level. Assumes nothing.
 use Rattle.std.proofs.Common.{◌≡◌, ℕ, ◌+◌, ◌*◌, ◌<◌, ◌≤◌, Bool, true, false, cond, ◌||◌, eqb, ltb, leb, is_some, Some, None, Option, sym, refl, ap, ◌∙◌, arith}
 use mathlib.Core.Path.{fun_ext}
-use Rattle.std.proofs.lemmas.Bool.{leb_true, le_leb, or_left}
+use Rattle.std.proofs.lemmas.Bool.{leb-true, le-leb, or_left}
 use Rattle.block.specs.Block.{Block, Blocks}
 use Rattle.block.proofs.Counts.{count_le_of}
 use Rattle.code.specs.Word.{Coding, count_held, lowest, Has}
@@ -89,12 +89,12 @@ module _ (l : Layout) (m : Meaning) (L : Lawful m) (F : Fits l m.shape) (K : Cod
       let fewer : count_held h' w ≤ count_held h w =
       count_le_of (λ j. is_some (h' j)) (λ j. is_some (h j)) w (λ j _. held_before (ltb j w) (m.covers (node_of l s j) (place_of l s j) (with_node d z)) (c (node_of l s j) (place_of l s j))) in
       let is' : leb l.k (count_held h' w) ≡ true → K.whole (lowest l.k h') (block_of l p) ≡ v.blocks (block_of l p)
-      = λ e. whole_is l K D h' v.blocks (block_of l p) (held_blocks l K D m.shape c' tidy' s) (leb_true l.k (count_held h' w) e) v.word (left_has l m.covers (with_node d z) c s v.blocks v.has) b in
-      let more : leb l.k (count_held h' w) ≡ true → l.k ≤ count_held h w = λ e. let q = leb_true l.k (count_held h' w) e in omega arith in
+      = λ e. whole_is l K D h' v.blocks (block_of l p) (held_blocks l K D m.shape c' tidy' s) (leb-true l.k (count_held h' w) e) v.word (left_has l m.covers (with_node d z) c s v.blocks v.has) b in
+      let more : leb l.k (count_held h' w) ≡ true → l.k ≤ count_held h w = λ e. let q = leb-true l.k (count_held h' w) e in omega arith in
       record {
         rule = ap (leb l.k) (held_covered l m L F s (with_node d z) c' a (left_covered d z c law.covered));
         there = λ e. law.covered n p wi ∙ L.fewer n p (with_node d z) d wi (λ y q. or_left (d y) (eqb y z) q) e;
-        before = λ e. le_leb l.k (count_held h w) (more e);
+        before = λ e. le-leb l.k (count_held h w) (more e);
         same = λ e. whole_is l K D h v.blocks (block_of l p) (held_blocks l K D m.shape c law.tidy s) (more e) v.word v.has b ∙ sym (is' e);
         agrees = λ o e q. sym (below_word l K D m.shape c law.tidy n p o v lt q) ∙ sym (is' e);
       }

@@ -1,7 +1,7 @@
 -- A call that a level passes on is the same call of the level. Assumes nothing.
 use Rattle.std.proofs.Common.{◌≡◌, ℕ, ◌+◌, ◌*◌, ◌<◌, ◌≤◌, Bool, true, false, cond, not, ◌&&◌, ◌||◌, eqb, ltb, leb, List, length, Some, None, Ok, Err, Option, Result, sym, refl, ap, ◌∙◌, subst, ap₂, arith}
 use mathlib.Core.Path.{fun_ext}
-use Rattle.std.proofs.lemmas.Bool.{and_parts, eqb_true, le_leb, lt_leb, not_false, false≢true}
+use Rattle.std.proofs.lemmas.Bool.{and_parts, eqb-true, le-leb, lt-leb, not-false, false≢true}
 use Rattle.refusal.specs.Answer.{refuse, outcome, unless, Turns}
 use Rattle.refusal.specs.declared.kind.Refusal.{Refusal}
 use Rattle.refusal.specs.declared.kind.Refusal.TheVariants.{Node, Place, Slot as BadSlot, Length, SlotNotOpen, SlotNotEmpty}
@@ -115,7 +115,7 @@ module _ (l : Layout) (K : Coding) where
     put_same s n p len h =
         let d = data_place l p h in
         ap₂ (λ x y. refuse (leb b.shape.nodes n) Node (refuse x Place (beyond_slots b s (not_a_block len (refuse (not y) SlotNotOpen None)))))
-        (lt_leb b.shape.places p (omega (arith, d, a.matches.fits.places)) ∙ sym (lt_leb (l.k * l.lanes) p h)) (sym (same_open l K (b.slot s)))
+        (lt-leb b.shape.places p (omega (arith, d, a.matches.fits.places)) ∙ sym (lt-leb (l.k * l.lanes) p h)) (sym (same_open l K (b.slot s)))
 
     put_open : (s n p len : ℕ) → put_refusal b s n p len ≡ None → is_open (b.slot s) ≡ true
     put_open s n p len e =
@@ -123,7 +123,7 @@ module _ (l : Layout) (K : Coding) where
         let at_slot = refuse_rest (leb b.shape.places p) Place _ at_place in
         let at_length = refuse_rest (leb b.shape.slots s) BadSlot _ at_slot in
         let at_open = refuse_rest (not (eqb len 64)) Length _ at_length in
-        not_false (is_open (b.slot s)) (refuse_not (not (is_open (b.slot s))) SlotNotOpen None at_open)
+        not-false (is_open (b.slot s)) (refuse_not (not (is_open (b.slot s))) SlotNotOpen None at_open)
 
     put_cells : (n p : ℕ) (z : Block) (s : Slot) → n < l.nodes → p < l.k * l.lanes → is_open s ≡ true
         → open_cells l (with_cell (cells_of s) n p (Some z)) ≡ with_cell (cells_of (level_slot l K.whole s)) n p (Some z)
@@ -139,8 +139,8 @@ module _ (l : Layout) (K : Coding) where
         there : (x y : ℕ) → (eqb x n && eqb y p) ≡ true → inside l x y ≡ true
         there x y e =
             let q = and_parts (eqb x n) (eqb y p) e in
-            let u = eqb_true x n q.0 in
-            let v = eqb_true y p q.1 in
+            let u = eqb-true x n q.0 in
+            let v = eqb-true y p q.1 in
             is_inside l x y (omega arith) (omega arith)
 
     pub put_means : (s n p : ℕ) (z : List ℕ) → n < l.nodes → p < l.k * l.lanes → PutAnswer b s n p z r b' → PutAnswer (level l K.whole b) s n p z r (level l K.whole b')

@@ -1,6 +1,6 @@
 -- A sound level keeps its promise. Assumes nothing.
 use Rattle.std.proofs.Common.{◌≡◌, ℕ, ◌+◌, ◌*◌, ◌<◌, ◌≤◌, true, ◌||◌, leb, ◌⊎◌, is_some, Some, None, Option, sym, refl, ap, ◌∙◌, subst, inl, inr, ⊎_elim, arith}
-use Rattle.std.proofs.lemmas.Bool.{leb_true, le_leb, or_left, or_right, or_cases, false≢true}
+use Rattle.std.proofs.lemmas.Bool.{leb-true, le-leb, or_left, or_right, or_cases, false≢true}
 use Rattle.block.specs.Block.{Block}
 use Rattle.code.specs.Word.{Coding}
 use Rattle.store.specs.Meaning.{Nodes, Cells, Slot, Meaning, SealedLaw, LawfulSlot, Lawful}
@@ -60,9 +60,9 @@ module _ (l : Layout) (K : Coding) (D : Law l K) (b : Meaning) (L : Lawful b) (a
 
   pub promised : LevelPromise l K.Word b above
   promised = record {
-    only_covers = λ n p d w h. ⊎_elim inl (λ e. inr (leb_true l.k (covered_of l b.covers (stripe_of l n p) d) e)) (or_cases (b.covers n p d) (leb l.k (covered_of l b.covers (stripe_of l n p) d)) h);
+    only_covers = λ n p d w h. ⊎_elim inl (λ e. inr (leb-true l.k (covered_of l b.covers (stripe_of l n p) d) e)) (or_cases (b.covers n p d) (leb l.k (covered_of l b.covers (stripe_of l n p) d)) h);
     covers_below = λ n p d w h. or_left (b.covers n p d) (leb l.k (covered_of l b.covers (stripe_of l n p) d)) h;
-    covers_stripe = λ n p d w h. or_right (b.covers n p d) (leb l.k (covered_of l b.covers (stripe_of l n p) d)) (le_leb l.k (covered_of l b.covers (stripe_of l n p) d) h);
+    covers_stripe = λ n p d w h. or_right (b.covers n p d) (leb l.k (covered_of l b.covers (stripe_of l n p) d)) (le-leb l.k (covered_of l b.covers (stripe_of l n p) d) h);
     words = λ s d c e st A. one_word (b.slot s) (L.slots s) ((level_lawful l b L a.matches.fits K D).slots s) (a.words s) d c e st A;
     lies = λ n p w. (stripe_among l n p (level_node l b L a.matches.fits n w.0), node_back l n p (data_place l p w.1), place_back l n p);
     back = λ s c A lt. (stripe_on l s c A lt, block_on l s c A.lane);

@@ -1,9 +1,9 @@
 -- Reading the blocks of a stripe, and what its word gives. Assumes nothing.
-use Rattle.std.proofs.Common.{◌≡◌, ℕ, ◌+◌, ◌*◌, ◌<◌, ◌≤◌, Bool, true, false, cond, not, eqb, ltb, leb, List, length, get_or, set, is_some, is_ok, Some, None, Ok, Err, Option, Result, unwrap_or, sym, refl, ap, ◌∙◌, subst, ap₂, ⊎_elim, arith, get_or_set_other, get_or_set_same}
+use Rattle.std.proofs.Common.{◌≡◌, ℕ, ◌+◌, ◌*◌, ◌<◌, ◌≤◌, Bool, true, false, cond, not, eqb, ltb, leb, List, length, get_or, set, is_some, is_ok, Some, None, Ok, Err, Option, Result, unwrap_or, sym, refl, ap, ◌∙◌, subst, ap₂, ⊎_elim, arith, get_or-set_other, get_or-set_same}
 use mathlib.Core.Path.{fun_ext}
 use borrow.Rule.Slice.PartMut.{put_mid}
 use Rattle.std.proofs.lemmas.List.{get_or_past}
-use Rattle.std.proofs.lemmas.Bool.{lt_leb, lt_ltb, le_ltb, le_leb, cond_false, cases_lt}
+use Rattle.std.proofs.lemmas.Bool.{lt-leb, lt-ltb, le-ltb, le-leb, cond-false, cases_lt}
 use Rattle.refusal.specs.Answer.{refuse, outcome, unless, Turns}
 use Rattle.refusal.specs.declared.kind.Refusal.{Refusal}
 use Rattle.refusal.specs.declared.kind.Refusal.TheVariants.{Missing, TooFewBlocks, BlockNumber, SlotEmpty}
@@ -46,22 +46,22 @@ cell_told m s n p s< n< p< old new r long q =
 -- one block more of a stripe, with its mark
 module _ (c mark w : ℕ) (marks xs ys : List ℕ) (room : c * 64 ≤ length xs) (size : length ys ≡ 64) where
   pub marked_here : c < length marks → marked (set marks c mark) (put_mid (c * 64) w xs ys) c ≡ cond (not (eqb mark 0)) (Some ys) None
-  marked_here h = ap₂ (λ u v. cond (not (eqb u 0)) (Some v) None) (get_or_set_same marks c mark 0 h) (block_here c w xs ys room size)
+  marked_here h = ap₂ (λ u v. cond (not (eqb u 0)) (Some v) None) (get_or-set_same marks c mark 0 h) (block_here c w xs ys room size)
 
   pub marked_other : w ≡ 64 → (i : ℕ) → (i ≡ c → ⊥) → marked (set marks c mark) (put_mid (c * 64) w xs ys) i ≡ marked marks xs i
-  marked_other wide i ne = ap₂ (λ u v. cond (not (eqb u 0)) (Some v) None) (get_or_set_other marks c i mark 0 ne) (block_other c w xs ys room size wide i ne)
+  marked_other wide i ne = ap₂ (λ u v. cond (not (eqb u 0)) (Some v) None) (get_or-set_other marks c i mark 0 ne) (block_other c w xs ys room size wide i ne)
 
 -- a whole stripe read is what is held of it
 all_gathered : (l : Layout) (m : Meaning) (s : ℕ) (x : Stripe) (marks bytes : List ℕ) → length marks ≡ l.k + l.m
     → Gathered l m s x (l.k + l.m) marks bytes → marked marks bytes ≡ held_of l (cells_of (m.slot s)) x
 all_gathered l m s x marks bytes e g = fun_ext (λ i. ⊎_elim
     (λ lt. g i lt)
-    (λ le. ap (λ u. cond (not (eqb u 0)) (Some (block_at bytes i)) None) (get_or_past marks i 0 (omega arith)) ∙ sym (cond_false (ltb i (l.k + l.m)) _ None (le_ltb i (l.k + l.m) le)))
+    (λ le. ap (λ u. cond (not (eqb u 0)) (Some (block_at bytes i)) None) (get_or_past marks i 0 (omega arith)) ∙ sym (cond-false (ltb i (l.k + l.m)) _ None (le-ltb i (l.k + l.m) le)))
     (cases_lt i (l.k + l.m)))
 
 -- fewer than k, as the code and as the level test it
 too_few : (n k : ℕ) → ltb n k ≡ not (leb k n)
-too_few n k = ⊎_elim (λ (h : n < k). lt_ltb n k h ∙ sym (ap not (lt_leb k n h))) (λ (h : k ≤ n). le_ltb n k h ∙ sym (ap not (le_leb k n h))) (cases_lt n k)
+too_few n k = ⊎_elim (λ (h : n < k). lt-ltb n k h ∙ sym (ap not (lt-leb k n h))) (λ (h : k ≤ n). le-ltb n k h ∙ sym (ap not (le-leb k n h))) (cases_lt n k)
 
 module _ (l : Layout) (K : Coding) (m : Meaning) (s : ℕ) (x : Stripe) (marks bytes : List ℕ) (i n p : ℕ) (old new : List ℕ) (r : Result Unit Refusal)
     (lm : length marks ≡ l.k + l.m) (lb : length bytes ≡ (l.k + l.m) * 64) (lo : length old ≡ 64) (hi : i < l.k + l.m)
@@ -80,7 +80,7 @@ module _ (l : Layout) (K : Coding) (m : Meaning) (s : ℕ) (x : Stripe) (marks b
       let counted : count (marks_held marks) (length marks) ≡ count_held h (l.k + l.m)
       = ap (count (marks_held marks)) lm ∙ sym (counts_marked l.k marks bytes (l.k + l.m)) ∙ ap (λ y. count_held y (l.k + l.m)) same in
       past_lengths (fitted l K) i marks (length bytes) (length old) lm lb lo
-      ∙ ap₂ (λ a b. refuse a TooFewBlocks (refuse b BlockNumber None)) (ap (λ y. ltb y l.k) counted ∙ too_few (count_held h (l.k + l.m)) l.k) (lt_leb (l.k + l.m) i hi)
+      ∙ ap₂ (λ a b. refuse a TooFewBlocks (refuse b BlockNumber None)) (ap (λ y. ltb y l.k) counted ∙ too_few (count_held h (l.k + l.m)) l.k) (lt-leb (l.k + l.m) i hi)
 
   -- the rebuild of a stripe that was read gives the level's block
   pub restores : RestoreAnswer (restored l K.whole h i) n p old (named n p r) new

@@ -1,7 +1,7 @@
 -- Sealing a slot whose checks are written. Assumes nothing.
 use Rattle.std.proofs.Common.{◌≡◌, ℕ, ◌+◌, ◌*◌, ◌<◌, ◌≤◌, Bool, true, false, cond, not, ◌&&◌, eqb, ltb, leb, List, is_some, Some, None, Ok, Err, Option, Result, sym, refl, ap, ◌∙◌, subst, ap₂, ⊎_elim, arith}
 use mathlib.Core.Path.{fun_ext}
-use Rattle.std.proofs.lemmas.Bool.{leb_false, lt_ltb, le_ltb, cond_true, cond_false, cases_lt, cases_Bool, false≢true}
+use Rattle.std.proofs.lemmas.Bool.{leb-false, lt-ltb, le-ltb, cond-true, cond-false, cases_lt, cases_Bool, false≢true}
 use Rattle.std.specs.Option.{option_or}
 use Rattle.refusal.specs.Answer.{refuse, outcome, unless, first}
 use Rattle.refusal.specs.declared.kind.Refusal.{Refusal}
@@ -47,7 +47,7 @@ state_open m s t a e = at (leb m.shape.slots s) refl a
 
     at : (b : Bool) → leb m.shape.slots s ≡ b → Ok t ≡ outcome (refuse b BadSlot None) (state_of (m.slot s)) → Unsealed m s
     at true q r = let y : ◌≡◌ {A = ℕ} 0 1 = cc in absurd (omega arith)
-    at false q r = let y : t ≡ state_of (m.slot s) = cc in record { slot = leb_false m.shape.slots s q; unsealed = kind (m.slot s) (sym y ∙ e) }
+    at false q r = let y : t ≡ state_of (m.slot s) = cc in record { slot = leb-false m.shape.slots s q; unsealed = kind (m.slot s) (sym y ∙ e) }
 
 module _ (l : Layout) (K : Coding) (b : Meaning) (L : Lawful b) (F : Fits l b.shape) (s : ℕ) (u : Unsealed b s) where
   -- an open slot of the level has the cells beneath
@@ -58,7 +58,7 @@ module _ (l : Layout) (K : Coding) (b : Meaning) (L : Lawful b) (F : Fits l b.sh
       at empty e t = absurd (false≢true e)
       at (sealed d c) e t = absurd (false≢true e)
       at (opened c) e t = ⊎_elim
-          (λ h. cond_true (inside l n p) (c n p) None (is_inside l n p h g))
+          (λ h. cond-true (inside l n p) (c n p) None (is_inside l n p h g))
           (λ h. nothing (inside l n p) (c n p) (none_is (c n p) (outside h)))
           (cases_lt n l.nodes)
         where
@@ -179,7 +179,7 @@ module _ (l : Layout) (K : Coding) (D : Law l K) (b b' b'' : Meaning) (L : Lawfu
         has = λ i z lt e.
             let e' : c' (node_of l st i) (place_of l st i) ≡ Some z = (kept (ltb i (l.k + l.m)) (c' (node_of l st i) (place_of l st i)) z e).1 in
             ⊎_elim
-            (λ g. D.completes.has h all full i z lt (cond_true (ltb i l.k) (at i) None (lt_ltb i l.k g) ∙ sym (data_is (node_of l st i) (place_of l st i) (place_within l st i l.k A g)) ∙ e'))
+            (λ g. D.completes.has h all full i z lt (cond-true (ltb i l.k) (at i) None (lt-ltb i l.k g) ∙ sym (data_is (node_of l st i) (place_of l st i) (place_within l st i l.k A g)) ∙ e'))
             (λ g. some_same (ap₂ (λ u v. Some (K.whole (data_of l c u) v)) (sym (stripe_on l st i A lt)) (sym (block_on l st i A.lane))
             ∙ sym (check_is (node_of l st i) (place_of l st i) (node_within l st i A) (check_above l st i g) (place_within l st i (l.k + l.m) A lt)) ∙ e'))
             (cases_lt i l.k);
@@ -187,8 +187,8 @@ module _ (l : Layout) (K : Coding) (D : Law l K) (b b' b'' : Meaning) (L : Lawfu
     where
       some_if_data : (i : ℕ) (o : Option Block) → (i < l.k → is_some o ≡ true) → is_some (cond (ltb i l.k) o None) ≡ ltb i l.k
       some_if_data i o f = ⊎_elim
-          (λ lt. ap is_some (cond_true (ltb i l.k) o None (lt_ltb i l.k lt)) ∙ f lt ∙ sym (lt_ltb i l.k lt))
-          (λ le. ap is_some (cond_false (ltb i l.k) o None (le_ltb i l.k le)) ∙ sym (le_ltb i l.k le))
+          (λ lt. ap is_some (cond-true (ltb i l.k) o None (lt-ltb i l.k lt)) ∙ f lt ∙ sym (lt-ltb i l.k lt))
+          (λ le. ap is_some (cond-false (ltb i l.k) o None (le-ltb i l.k le)) ∙ sym (le-ltb i l.k le))
           (cases_lt i l.k)
 
       blocks_of : (n p : ℕ) (z : Block) → c n p ≡ Some z → IsBlock z

@@ -1,7 +1,7 @@
 -- Writing the checks of a slot, one after the other. Assumes nothing.
 use Rattle.std.proofs.Common.{◌≡◌, ℕ, ◌+◌, ◌*◌, ◌<◌, ◌≤◌, Bool, true, false, cond, ◌&&◌, eqb, ltb, ◌⊎◌, List, Some, None, Option, sym, refl, ap, ◌∙◌, subst, ap₂, inl, inr, ⊎_elim, arith}
 use mathlib.Core.Path.{fun_ext}
-use Rattle.std.proofs.lemmas.Bool.{ltb_true, eq_eqb, eqb_true, cond_true, cond_false, cases_lt, cases_Bool, and_parts, and_from, false≢true}
+use Rattle.std.proofs.lemmas.Bool.{ltb-true, eq-eqb, eqb-true, cond-true, cond-false, cases_lt, cases_Bool, and_parts, and_from, false≢true}
 use Rattle.block.specs.Block.{Block, Blocks, Held}
 use Rattle.code.specs.Word.{Coding}
 use Rattle.store.specs.Meaning.{Cells, Slot, Meaning}
@@ -19,7 +19,7 @@ abbrev OnChecks : Layout → (ℕ → ℕ → Type 0) → Type 0
 OnChecks l D = (n p : ℕ) → D n p → CheckPlace l n p
 
 slot_at : (m : Meaning) (s : ℕ) (x : Slot) → (with_slot m s x).slot s ≡ x
-slot_at m s x = cond_true (eqb s s) x (m.slot s) (eq_eqb s s refl)
+slot_at m s x = cond-true (eqb s s) x (m.slot s) (eq-eqb s s refl)
 
 -- the later of two changes of a slot
 pub twice : (m : Meaning) (s : ℕ) (x y : Slot) → with_slot (with_slot m s x) s y ≡ with_slot m s y
@@ -39,7 +39,7 @@ unchanged m s o = λ i. record { shape = m.shape; covers = m.covers; slot = λ t
 
     at : (t : ℕ) (q : Bool) → eqb t s ≡ q → m.slot t ≡ cond q (opened (cells_of (m.slot s))) (m.slot t)
     at t false e = refl
-    at t true e = ap m.slot (eqb_true t s e) ∙ whole_slot (m.slot s) o
+    at t true e = ap m.slot (eqb-true t s e) ∙ whole_slot (m.slot s) o
 
 module _ (l : Layout) (whole : Held → Blocks) (s : ℕ) where
   module _ (D : ℕ → ℕ → Type 0) (on : OnChecks l D) (m m' : Meaning) (w : Written l whole D s m m') where
@@ -51,7 +51,7 @@ module _ (l : Layout) (whole : Held → Blocks) (s : ℕ) where
     stripe_same st a = fun_ext (λ i. at i (ltb i l.k) refl)
       where
         at : (i : ℕ) (q : Bool) → ltb i l.k ≡ q → cond q (cells_of (m'.slot s) (node_of l st i) (place_of l st i)) None ≡ cond q (cells_of (m.slot s) (node_of l st i) (place_of l st i)) None
-        at i true e = data_same (node_of l st i) (place_of l st i) (place_within l st i l.k a (ltb_true i l.k e))
+        at i true e = data_same (node_of l st i) (place_of l st i) (place_within l st i l.k a (ltb-true i l.k e))
         at i false e = refl
 
     check_same : (n p : ℕ) → n < l.nodes → check_at l whole (cells_of (m'.slot s)) n p ≡ check_at l whole (cells_of (m.slot s)) n p
@@ -80,8 +80,8 @@ module _ (l : Layout) (whole : Held → Blocks) (s : ℕ) where
   written_one : (m m' : Meaning) (x y : ℕ) → CheckPlace l x y → m' ≡ checked_one l whole m s x y → Written l whole (One x y) s m m'
   written_one m m' x y at e = record {
     same = e ∙ ap (λ c. with_slot m s (opened c)) (sym cells);
-    others = λ n p h. ap (λ c. c n p) cells ∙ cond_false (eqb n x && eqb p y) (Some here) (cells_of (m.slot s) n p) (other n p h);
-    checks = λ n p d. ap (λ c. c n p) cells ∙ cond_true (eqb n x && eqb p y) (Some here) (cells_of (m.slot s) n p) (and_from (eqb n x) (eqb p y) (eq_eqb n x d.1) (eq_eqb p y d.2))
+    others = λ n p h. ap (λ c. c n p) cells ∙ cond-false (eqb n x && eqb p y) (Some here) (cells_of (m.slot s) n p) (other n p h);
+    checks = λ n p d. ap (λ c. c n p) cells ∙ cond-true (eqb n x && eqb p y) (Some here) (cells_of (m.slot s) n p) (and_from (eqb n x) (eqb p y) (eq-eqb n x d.1) (eq-eqb p y d.2))
         ∙ ap₂ (λ u v. Some (check_at l whole (cells_of (m.slot s)) u v)) (sym d.1) (sym d.2);
   }
     where
@@ -95,8 +95,8 @@ module _ (l : Layout) (whole : Held → Blocks) (s : ℕ) where
       other n p h = ⊎_elim
           (λ t.
           let z = and_parts (eqb n x) (eqb p y) t in
-          let u = eqb_true n x z.0 in
-          let v = eqb_true p y z.1 in
+          let u = eqb-true n x z.0 in
+          let v = eqb-true p y z.1 in
           absurd (h (record { node = omega (arith, u, at.node); least = omega (arith, v, at.least); most = omega (arith, v, at.most) }, u, v)))
           (λ f. f) (cases_Bool (eqb n x && eqb p y))
 

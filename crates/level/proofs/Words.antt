@@ -1,6 +1,6 @@
 -- The word of a stripe. Assumes nothing.
 use Rattle.std.proofs.Common.{◌≡◌, ℕ, ◌+◌, ◌*◌, ◌<◌, ◌≤◌, true, cond, ltb, leb, Some, None, Option, sym, refl, ap, ◌∙◌, subst, ap₂, ⊎_elim}
-use Rattle.std.proofs.lemmas.Bool.{ltb_true, leb_true, and_parts, and_from, lt_ltb, cond_true}
+use Rattle.std.proofs.lemmas.Bool.{ltb-true, leb-true, and_parts, and_from, lt-ltb, cond-true}
 use Rattle.block.specs.Block.{Block, Blocks, Held, IsBlock}
 use Rattle.code.specs.Word.{Coding, Completes, AnyKBlocksBelongToExactlyOneWord, AllBlocks, Has, count_held, lowest}
 use Rattle.code.proofs.Law.{Agree}
@@ -35,14 +35,14 @@ at_layout l K h a completes any =
 pub inside_is : (l : Layout) (n p : ℕ) → inside l n p ≡ true → (n < l.nodes) × (p < l.k * l.lanes)
 inside_is l n p e =
     let b = and_parts (ltb n l.nodes) (ltb p (l.k * l.lanes)) e in
-    (ltb_true n l.nodes b.0, ltb_true p (l.k * l.lanes) b.1)
+    (ltb-true n l.nodes b.0, ltb-true p (l.k * l.lanes) b.1)
 
 pub is_inside : (l : Layout) (n p : ℕ) → n < l.nodes → p < l.k * l.lanes → inside l n p ≡ true
-is_inside l n p h g = and_from (ltb n l.nodes) (ltb p (l.k * l.lanes)) (lt_ltb n l.nodes h) (lt_ltb p (l.k * l.lanes) g)
+is_inside l n p h g = and_from (ltb n l.nodes) (ltb p (l.k * l.lanes)) (lt-ltb n l.nodes h) (lt-ltb p (l.k * l.lanes) g)
 
 -- a block of a stripe is held if it is there
 pub held_is : (l : Layout) (c : Cells) (s : Stripe) (i : ℕ) → i < l.k + l.m → held_of l c s i ≡ c (node_of l s i) (place_of l s i)
-held_is l c s i h = cond_true (ltb i (l.k + l.m)) (c (node_of l s i) (place_of l s i)) None (lt_ltb i (l.k + l.m) h)
+held_is l c s i h = cond-true (ltb i (l.k + l.m)) (c (node_of l s i) (place_of l s i)) None (lt-ltb i (l.k + l.m) h)
 
 -- a cell is the block of its stripe
 held_at : (l : Layout) (c : Cells) (n p : ℕ) → p < (l.k + l.m) * l.lanes → held_of l c (stripe_of l n p) (block_of l p) ≡ c n p
@@ -84,5 +84,5 @@ module _ (l : Layout) (K : Coding) (D : Law l K) where
         let ways = cell_cases (inside l n p) (leb l.k (count_held h w)) (c n p) (K.whole (lowest l.k h) (block_of l p)) b e in
         let lt : p < w * l.lanes = data_place l p (inside_is l n p ways.0).1 in
         ⊎_elim (below_word n p b v lt)
-        (λ r. sym (whole_is h v.blocks (block_of l p) (held_blocks (stripe_of l n p)) (leb_true l.k (count_held h w) r.0) v.word v.has (block_below l p w lt)) ∙ r.1)
+        (λ r. sym (whole_is h v.blocks (block_of l p) (held_blocks (stripe_of l n p)) (leb-true l.k (count_held h w) r.0) v.word v.has (block_below l p w lt)) ∙ r.1)
         ways.1

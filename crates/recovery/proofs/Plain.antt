@@ -1,7 +1,7 @@
 -- Copies and the sum: k bytes give the others back. Assumes nothing.
-use Rattle.std.proofs.Common.{◌≡◌, ℕ, zero, suc, ◌+◌, ◌<◌, ◌≤◌, Bool, true, false, cond, not, eqb, sym, refl, ap, ◌∙◌, subst, ap₂, ⊎_elim, add_one, arith}
+use Rattle.std.proofs.Common.{◌≡◌, ℕ, zero, suc, ◌+◌, ◌<◌, ◌≤◌, Bool, true, false, cond, not, eqb, sym, refl, ap, ◌∙◌, subst, ap₂, ⊎_elim, add-one, arith}
 use lib.Bits.{bit_xor, xor_self, xor_comm}
-use Rattle.std.proofs.lemmas.Bool.{cases_Bool, eq_eqb, ne_eqb, not_from_false, not_true}
+use Rattle.std.proofs.lemmas.Bool.{cases_Bool, eq-eqb, ne_eqb, not_from_false, not-true}
 use Rattle.field.specs.Field.{mul}
 use Rattle.field.specs.Sums.{summed}
 use Rattle.field.proofs.Laws.{mul_one, mul_zero}
@@ -41,7 +41,7 @@ module _ (k : ℕ) (chosen : ℕ → Bool) (enough : count chosen (k + 1) ≡ k)
         ap (λ b. summed chosen (λ i. mul (v i) (cond b (cond (eqb c i) 1 0) 1)) (k + 1)) t
         ∙ summed_at chosen (λ i. mul (v i) (cond (eqb c i) 1 0)) (k + 1) c l t
         (λ i li ti ne. ap (λ b. mul (v i) (cond b 1 0)) (ne_eqb c i (λ q. ne (sym q))) ∙ mul_zero (v i))
-        ∙ ap (λ b. mul (v c) (cond b 1 0)) (eq_eqb c c refl)
+        ∙ ap (λ b. mul (v c) (cond b 1 0)) (eq-eqb c c refl)
 
     at_other : (c : ℕ) → chosen c ≡ false → recovered sum_weight (k + 1) chosen v c ≡ total
     unfolding total
@@ -54,7 +54,7 @@ module _ (k : ℕ) (chosen : ℕ → Bool) (enough : count chosen (k + 1) ≡ k)
         summed_split chosen (recovered sum_weight (k + 1) chosen v) (k + 1)
         ∙ ap₂ bit_xor
         (summed_same chosen _ (λ i. mul (v i) 1) (k + 1) at_chosen)
-        (summed_one (λ i. not (chosen i)) _ total (k + 1) one_left (λ i l t. at_other i (not_true (chosen i) t)))
+        (summed_one (λ i. not (chosen i)) _ total (k + 1) one_left (λ i l t. at_other i (not-true (chosen i) t)))
         ∙ xor_self total
 
   -- a byte of a word that is not chosen is the sum of the others
@@ -71,7 +71,7 @@ module _ (k : ℕ) (chosen : ℕ → Bool) (enough : count chosen (k + 1) ≡ k)
 -- the data and the check together
 with_check : (f : ℕ → ℕ) (k : ℕ) → summed every f (k + 1) ≡ bit_xor (summed every f k) (f k)
 unfolding summed
-with_check f k = rw add_one
+with_check f k = rw add-one
 
 at_zero : (k e : ℕ) → e < 1 → k + e ≡ k
 at_zero k e l = omega arith

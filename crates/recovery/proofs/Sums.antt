@@ -1,7 +1,7 @@
 -- Sums over the chosen numbers below a bound. Assumes nothing.
-use Rattle.std.proofs.Common.{◌≡◌, ℕ, zero, suc, ◌+◌, ◌<◌, Bool, true, false, cond, not, sym, refl, ap, ◌∙◌, ap₂, ⊎_elim, add_one, arith, lit<}
+use Rattle.std.proofs.Common.{◌≡◌, ℕ, zero, suc, ◌+◌, ◌<◌, Bool, true, false, cond, not, sym, refl, ap, ◌∙◌, ap₂, ⊎_elim, add-one, arith, lit<}
 use lib.Bits.{bit_xor, xor_assoc, xor_comm, xor_zero_r, xor_lt}
-use Rattle.std.proofs.lemmas.Bool.{cases_eq, cond_true, cond_false}
+use Rattle.std.proofs.lemmas.Bool.{cases_eq, cond-true, cond-false}
 use Rattle.field.specs.Field.{mul}
 use Rattle.field.specs.Sums.{summed}
 use Rattle.field.proofs.Laws.{mul_zero}
@@ -13,11 +13,11 @@ module _ (chosen : ℕ → Bool) where
   -- one number more, chosen or not
   pub summed_more : (f : ℕ → ℕ) (n : ℕ) → chosen n ≡ true → summed chosen f (n + 1) ≡ bit_xor (summed chosen f n) (f n)
   unfolding summed
-  summed_more f n t = rw add_one (cond_true (chosen n) _ _ t)
+  summed_more f n t = rw add-one (cond-true (chosen n) _ _ t)
 
   pub summed_skip : (f : ℕ → ℕ) (n : ℕ) → chosen n ≡ false → summed chosen f (n + 1) ≡ summed chosen f n
   unfolding summed
-  summed_skip f n t = rw add_one (cond_false (chosen n) _ _ t)
+  summed_skip f n t = rw add-one (cond-false (chosen n) _ _ t)
 
   pub summed_same : (f g : ℕ → ℕ) (n : ℕ) → ((i : ℕ) → i < n → chosen i ≡ true → f i ≡ g i) → summed chosen f n ≡ summed chosen g n
   unfolding summed
@@ -68,7 +68,7 @@ module _ (chosen : ℕ → Bool) where
   summed_at f zero a l t h = absurd (omega arith)
   summed_at f (suc n) a l t h =
       ⊎_elim
-      (λ (e : n ≡ a). cond_true (chosen n) _ _ (ap chosen e ∙ t)
+      (λ (e : n ≡ a). cond-true (chosen n) _ _ (ap chosen e ∙ t)
       ∙ ap₂ bit_xor (summed_zero f n (λ i k c. h i (omega arith) c (λ q. omega arith))) (ap f e))
       (λ (ne : n ≡ a → ⊥).
       let below : summed chosen f n ≡ f a = summed_at f n a (omega arith) t (λ i k. h i (omega arith)) in

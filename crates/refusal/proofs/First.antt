@@ -1,5 +1,5 @@
 -- The first of several refusals, as a loop finds it. Assumes nothing.
-use Rattle.std.proofs.Common.{◌≡◌, ℕ, zero, suc, ◌+◌, ◌<◌, ◌≤◌, true, false, is_some, Some, None, Option, sym, refl, ap, ◌∙◌, ap₂, ⊎_elim, add_one, arith}
+use Rattle.std.proofs.Common.{◌≡◌, ℕ, zero, suc, ◌+◌, ◌<◌, ◌≤◌, true, false, is_some, Some, None, Option, sym, refl, ap, ◌∙◌, ap₂, ⊎_elim, add-one, arith}
 use Rattle.std.specs.Option.{option_or}
 use Rattle.std.proofs.lemmas.Bool.{cases_eq, false≢true}
 use Rattle.refusal.specs.Answer.{first}
@@ -7,7 +7,7 @@ use Rattle.refusal.specs.declared.kind.Refusal.{Refusal}
 
 -- none so far, and none here
 pub first_more : (f : ℕ → Option Refusal) (i : ℕ) → first f i ≡ None → f i ≡ None → first f (i + 1) ≡ None
-first_more f i e k = rw (add_one, e) k
+first_more f i e k = rw (add-one, e) k
 
 some_stays : (a b : Option Refusal) → is_some a ≡ true → option_or a b ≡ a
 some_stays None b e = absurd (false≢true e)

@@ -1,6 +1,6 @@
 -- What is left to refuse once the numbers are within the shape.
 use Rattle.std.proofs.Common.{◌≡◌, ℕ, ◌<◌, ◌≤◌, Bool, true, false, cond, not, ◌&&◌, eqb, leb, List, length, is_some, Some, None, Ok, Option, unwrap_or, sym, refl, ap, ◌∙◌}
-use Rattle.std.proofs.lemmas.Bool.{lt_leb, true≢false}
+use Rattle.std.proofs.lemmas.Bool.{lt-leb, true≢false}
 use Rattle.refusal.specs.declared.kind.Refusal.{Refusal}
 use Rattle.refusal.specs.declared.kind.Refusal.TheVariants.{Missing}
 use Rattle.block.specs.Block.{Block}
@@ -10,7 +10,7 @@ use Rattle.store.specs.Calls.{is_empty, is_open, cells_of, incomplete, beyond_sl
 
 module _ (m : Meaning) (s : ℕ) (s< : s < m.shape.slots) where
   within_slots : (rest : Option Refusal) → beyond_slots m s rest ≡ rest
-  within_slots rest = rw (lt_leb m.shape.slots s s<)
+  within_slots rest = rw (lt-leb m.shape.slots s s<)
 
   -- sealing an open slot is refused for its first absent cell alone
   pub seal_refused : is_open (m.slot s) ≡ true → seal_refusal m s ≡ incomplete m.shape (cells_of (m.slot s))
@@ -18,7 +18,7 @@ module _ (m : Meaning) (s : ℕ) (s< : s < m.shape.slots) where
 
   module _ (n p : ℕ) (n< : n < m.shape.nodes) (p< : p < m.shape.places) (len : ℕ) (l : len ≡ 64) where
     pub within_shape : (rest : Option Refusal) → beyond_shape m s n p (not_a_block len rest) ≡ rest
-    within_shape rest = rw (lt_leb m.shape.nodes n n<, lt_leb m.shape.places p p<, lt_leb m.shape.slots s s<, l)
+    within_shape rest = rw (lt-leb m.shape.nodes n n<, lt-leb m.shape.places p p<, lt-leb m.shape.slots s s<, l)
 
     cell_there : (x : Slot) (b : Block) → is_empty x ≡ false → cells_of x n p ≡ Some b → cell_refusal x n p ≡ None
     cell_there empty b e k = absurd (true≢false e)

@@ -1,6 +1,6 @@
 -- The limits of the sizes, as facts and as a test.
 use Rattle.std.proofs.Common.{◌≡◌, true, ◌&&◌, leb}
-use Rattle.std.proofs.lemmas.Bool.{leb_true, le_leb, and_parts}
+use Rattle.std.proofs.lemmas.Bool.{leb-true, le-leb, and_parts}
 use Rattle.store.specs.declared.kinds.Shape.{Shape}
 use Rattle.store.specs.Meaning.{Limits, within_limits}
 
@@ -12,21 +12,21 @@ limits_from s e =
     let d = and_parts (leb s.places 64) _ c.1 in
     let f = and_parts (leb 2 s.slots) (leb s.slots 8) d.1 in
     record {
-      nodes_least = leb_true 2 s.nodes a.0;
-      nodes_most = leb_true s.nodes 64 b.0;
-      places_least = leb_true 1 s.places c.0;
-      places_most = leb_true s.places 64 d.0;
-      slots_least = leb_true 2 s.slots f.0;
-      slots_most = leb_true s.slots 8 f.1;
+      nodes_least = leb-true 2 s.nodes a.0;
+      nodes_most = leb-true s.nodes 64 b.0;
+      places_least = leb-true 1 s.places c.0;
+      places_most = leb-true s.places 64 d.0;
+      slots_least = leb-true 2 s.slots f.0;
+      slots_most = leb-true s.slots 8 f.1;
     }
 
 pub limits_pass : (s : Shape) → Limits s → within_limits s ≡ true
 limits_pass s l =
     rw (
-      le_leb 2 s.nodes l.nodes_least,
-      le_leb s.nodes 64 l.nodes_most,
-      le_leb 1 s.places l.places_least,
-      le_leb s.places 64 l.places_most,
-      le_leb 2 s.slots l.slots_least,
-      le_leb s.slots 8 l.slots_most,
+      le-leb 2 s.nodes l.nodes_least,
+      le-leb s.nodes 64 l.nodes_most,
+      le-leb 1 s.places l.places_least,
+      le-leb s.places 64 l.places_most,
+      le-leb 2 s.slots l.slots_least,
+      le-leb s.slots 8 l.slots_most,
     )

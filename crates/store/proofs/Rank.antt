@@ -1,9 +1,9 @@
 -- A rank's file, read place by place. Assumes nothing.
-use Rattle.std.proofs.Common.{◌≡◌, ℕ, ◌+◌, ◌-◌, ◌*◌, ◌<◌, ◌≤◌, Bool, true, false, not, eqb, leb, List, [], ◌++◌, length, take, is_some, IfErr, Some, None, Ok, Err, Option, Result, unwrap_or, sym, refl, ap, ◌∙◌, subst, add_one, arith}
+use Rattle.std.proofs.Common.{◌≡◌, ℕ, ◌+◌, ◌-◌, ◌*◌, ◌<◌, ◌≤◌, Bool, true, false, not, eqb, leb, List, [], ◌++◌, length, take, is_some, IfErr, Some, None, Ok, Err, Option, Result, unwrap_or, sym, refl, ap, ◌∙◌, subst, add-one, arith}
 use borrow.Rule.Slice.PartMut.{put_mid}
 use Rattle.std.proofs.lemmas.List.{take_all}
-use Rattle.std.proofs.lemmas.Slice.{take_put_mid}
-use Rattle.std.proofs.lemmas.Bool.{lt_leb, eq_eqb, false≢true}
+use Rattle.std.proofs.lemmas.Slice.{take-put_mid}
+use Rattle.std.proofs.lemmas.Bool.{lt-leb, eq-eqb, false≢true}
 use Rattle.refusal.specs.Answer.{refuse, first, unless}
 use Rattle.refusal.specs.declared.kind.Refusal.{Refusal}
 use Rattle.refusal.specs.declared.kind.Refusal.TheVariants.{Missing}
@@ -45,17 +45,17 @@ module _ (m : Meaning) (s n k : ℕ) (s< : s < m.shape.slots) (n< : n < m.shape.
       let allowed = outcome_done (get_refusal m s n k (length old)) tt tt (sym answer.answer ∙ e) in
       let none = sym only_cell ∙ allowed in
       let is = turned _ _ _ _ _ answer allowed ∙ given_block (m.slot s) n k old none in
-      let more : gathered c n (k + 1) ≡ gathered c n k ++ unwrap_or (c n k) [] = rw add_one in
+      let more : gathered c n (k + 1) ≡ gathered c n k ++ unwrap_or (c n k) [] = rw add-one in
       record {
         none = first_more (cell_refusal (m.slot s) n) k before.none none;
-        bytes = take_put_mid (64 * k) w out new (64 * (k + 1)) (omega arith) room ∙ ap (λ x. x ++ new) before.bytes
+        bytes = take-put_mid (64 * k) w out new (64 * (k + 1)) (omega arith) room ∙ ap (λ x. x ++ new) before.bytes
             ∙ ap (λ x. gathered c n k ++ x) is ∙ sym more;
       }
 
 module _ (m : Meaning) (s n : ℕ) (old : List ℕ) (reads : Reads m s n (length old)) where
   only_places : rank_refusal m s n (length old) ≡ first (cell_refusal (m.slot s) n) m.shape.places
   only_places =
-      rw (lt_leb m.shape.nodes n reads.node, lt_leb m.shape.slots s reads.slot, eq_eqb (length old) (64 * m.shape.places) reads.room)
+      rw (lt-leb m.shape.nodes n reads.node, lt-leb m.shape.slots s reads.slot, eq-eqb (length old) (64 * m.shape.places) reads.room)
 
   pub rank_answered : (r : Result Unit Refusal) (new : List ℕ) → length new ≡ length old → IfErr r (λ _. new ≡ old) → Ends m s n r new → RankAnswer m s n old r new
   rank_answered (Ok tt) new len kept ends =

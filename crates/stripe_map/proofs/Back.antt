@@ -1,8 +1,8 @@
 -- The stripe map and its inverse undo each other, and stay within the store beneath. Assumes nothing.
-use Rattle.std.proofs.Common.{◌≡◌, ℕ, ◌+◌, ◌-◌, ◌*◌, ◌/◌, ◌%◌, ◌<◌, ◌≤◌, sym, refl, ap, ◌∙◌, ap₂, mod_lt, mod_eq_of_lt, add_mul, div_add_mod', arith}
-use native.Mathlib.Nat.{mod_add_mod, add_mod_right}
+use Rattle.std.proofs.Common.{◌≡◌, ℕ, ◌+◌, ◌-◌, ◌*◌, ◌/◌, ◌%◌, ◌<◌, ◌≤◌, sym, refl, ap, ◌∙◌, ap₂, mod-lt, mod-eq_of_lt, add-mul, div-add-mod', arith}
+use native.Mathlib.Nat.{mod-add-mod, add-mod_right}
 use lib.Arith.{digits_lt, digits_div, digits_mod}
-use Rattle.std.proofs.lemmas.Nat.{mul_le, div_below, le_div}
+use Rattle.std.proofs.lemmas.Nat.{mul-le, div_below, le-div}
 use Rattle.stripe_map.specs.declared.layout.Layout.{Layout}
 use Rattle.stripe_map.specs.declared.layout.Stripe.{Stripe}
 use Rattle.stripe_map.specs.Map.{node_of, place_of, stripe_of, block_of, Among}
@@ -11,12 +11,12 @@ use Rattle.stripe_map.specs.Map.{node_of, place_of, stripe_of, block_of, Among}
 turn_back : (i c G : ℕ) → c ≤ G → i < G → ((i + (G - c)) % G + c) % G ≡ i
 turn_back i c G h lt =
     let e : i + (G - c) + c ≡ i + G = omega arith in
-    mod_add_mod (i + (G - c)) G c ∙ ap (λ x. x % G) e ∙ add_mod_right i G ∙ mod_eq_of_lt lt
+    mod-add-mod (i + (G - c)) G c ∙ ap (λ x. x % G) e ∙ add-mod_right i G ∙ mod-eq_of_lt lt
 
 turn_on : (j c G : ℕ) → c ≤ G → j < G → ((j + c) % G + (G - c)) % G ≡ j
 turn_on j c G h lt =
     let e : j + c + (G - c) ≡ j + G = omega arith in
-    mod_add_mod (j + c) G (G - c) ∙ ap (λ x. x % G) e ∙ add_mod_right j G ∙ mod_eq_of_lt lt
+    mod-add-mod (j + c) G (G - c) ∙ ap (λ x. x % G) e ∙ add-mod_right j G ∙ mod-eq_of_lt lt
 
 module _ (l : Layout) where
   pub group_some : 0 < l.group
@@ -28,13 +28,13 @@ module _ (l : Layout) where
   -- the groups fill the nodes
   pub groups_fill : l.nodes / l.group * l.group ≡ l.nodes
   groups_fill =
-      let e : l.nodes / l.group * l.group + l.nodes % l.group ≡ l.nodes = div_add_mod' l.nodes l.group in
+      let e : l.nodes / l.group * l.group + l.nodes % l.group ≡ l.nodes = div-add-mod' l.nodes l.group in
       let z : l.nodes % l.group ≡ 0 = l.groups in
       omega (arith, e, z)
 
   -- a place with data is one beneath
   pub data_place : (p : ℕ) → p < l.k * l.lanes → p < (l.k + l.m) * l.lanes
-  data_place p h = rw add_mul (omega arith)
+  data_place p h = rw add-mul (omega arith)
 
   pub block_below : (p b : ℕ) → p < b * l.lanes → block_of l p < b
   unfolding block_of
@@ -42,19 +42,19 @@ module _ (l : Layout) where
 
   pub block_least : (p b : ℕ) → b * l.lanes ≤ p → b ≤ block_of l p
   unfolding block_of
-  block_least p b h = le_div b p l.lanes lanes_some h
+  block_least p b h = le-div b p l.lanes lanes_some h
 
   -- the stripe's block of that number lies at the place and on the node
   pub place_back : (n p : ℕ) → place_of l (stripe_of l n p) (block_of l p) ≡ p
   unfolding place_of stripe_of block_of
-  place_back n p = div_add_mod' p l.lanes
+  place_back n p = div-add-mod' p l.lanes
 
   pub node_back : (n p : ℕ) → p < (l.k + l.m) * l.lanes → node_of l (stripe_of l n p) (block_of l p) ≡ n
   unfolding node_of stripe_of block_of
   node_back n p h =
       let c : p / l.lanes < l.k + l.m = div_below p l.lanes (l.k + l.m) lanes_some h in
       let w : p / l.lanes ≤ l.group = omega (arith, l.wide, c) in
-      ap (λ x. n / l.group * l.group + x) (turn_back (n % l.group) (p / l.lanes) l.group w (mod_lt n group_some)) ∙ div_add_mod' n l.group
+      ap (λ x. n / l.group * l.group + x) (turn_back (n % l.group) (p / l.lanes) l.group w (mod-lt n group_some)) ∙ div-add-mod' n l.group
 
   -- the block's place and node have its number and stripe
   pub block_on : (s : Stripe) (c : ℕ) → s.lane < l.lanes → block_of l (place_of l s c) ≡ c
@@ -65,7 +65,7 @@ module _ (l : Layout) where
   unfolding node_of stripe_of place_of
   stripe_on s c a h =
       let G = l.group in
-      let r : (s.first + c) % G < G = mod_lt (s.first + c) group_some in
+      let r : (s.first + c) % G < G = mod-lt (s.first + c) group_some in
       let w : c ≤ G = omega (arith, l.wide, h) in
       let g : (s.group * G + (s.first + c) % G) / G ≡ s.group = digits_div s.group r in
       let i : (s.group * G + (s.first + c) % G) % G ≡ (s.first + c) % G = digits_mod s.group r in
@@ -79,7 +79,7 @@ module _ (l : Layout) where
   pub node_within : (s : Stripe) (c : ℕ) → Among l s → node_of l s c < l.nodes
   unfolding node_of
   node_within s c a =
-      let d = digits_lt a.group (mod_lt (s.first + c) group_some) in
+      let d = digits_lt a.group (mod-lt (s.first + c) group_some) in
       omega (arith, d, groups_fill)
 
   pub place_within : (s : Stripe) (c b : ℕ) → Among l s → c < b → place_of l s c < b * l.lanes
@@ -89,13 +89,13 @@ module _ (l : Layout) where
   -- a check lies above the data
   pub check_above : (s : Stripe) (c : ℕ) → l.k ≤ c → l.k * l.lanes ≤ place_of l s c
   unfolding place_of
-  check_above s c g = let d = mul_le l.k l.lanes c l.lanes g (omega arith) in omega arith
+  check_above s c g = let d = mul-le l.k l.lanes c l.lanes g (omega arith) in omega arith
 
   -- a cell beneath is in a stripe of the layout
   pub stripe_among : (n p : ℕ) → n < l.nodes → Among l (stripe_of l n p)
   unfolding stripe_of
   stripe_among n p h = record {
     group = div_below n l.group (l.nodes / l.group) group_some (omega (arith, h, groups_fill));
-    first = mod_lt (n % l.group + (l.group - p / l.lanes)) group_some;
-    lane = mod_lt p lanes_some;
+    first = mod-lt (n % l.group + (l.group - p / l.lanes)) group_some;
+    lane = mod-lt p lanes_some;
   }

@@ -1,6 +1,6 @@
 -- The calls of the map are not refused within the layout, and what they answer then. Assumes nothing.
-use Rattle.std.proofs.Common.{◌≡◌, ℕ, ◌+◌, ◌*◌, ◌/◌, ◌%◌, ◌<◌, ◌≤◌, true, false, not, ◌&&◌, ltb, leb, None, Ok, sym, ◌∙◌, ⊎_elim, mod_eq_of_lt, arith}
-use Rattle.std.proofs.lemmas.Bool.{lt_ltb, lt_leb, leb_false, cases_lt}
+use Rattle.std.proofs.Common.{◌≡◌, ℕ, ◌+◌, ◌*◌, ◌/◌, ◌%◌, ◌<◌, ◌≤◌, true, false, not, ◌&&◌, ltb, leb, None, Ok, sym, ◌∙◌, ⊎_elim, mod-eq_of_lt, arith}
+use Rattle.std.proofs.lemmas.Bool.{lt-ltb, lt-leb, leb-false, cases_lt}
 use Rattle.refusal.specs.Answer.{outcome}
 use Rattle.refusal.specs.declared.kind.Refusal.TheVariants.{Node, Place}
 use Rattle.refusal.proofs.Turning.{outcome_done, outcome_value, refuse_not, refuse_rest}
@@ -12,10 +12,10 @@ use Rattle.stripe_map.specs.Map.{Among, among, locate_refusal, trace_refusal, ad
 
 pub locate_found : (l : Layout) (s : Stripe) (c : ℕ) → Among l s → c < l.k + l.m → locate_refusal l s c ≡ None
 locate_found l s c a h =
-    rw (lt_ltb s.group (l.nodes / l.group) a.group, lt_ltb s.first l.group a.first, lt_ltb s.lane l.lanes a.lane, lt_leb (l.k + l.m) c h)
+    rw (lt-ltb s.group (l.nodes / l.group) a.group, lt-ltb s.first l.group a.first, lt-ltb s.lane l.lanes a.lane, lt-leb (l.k + l.m) c h)
 
 pub trace_found : (l : Layout) (n p : ℕ) → n < l.nodes → p < (l.k + l.m) * l.lanes → trace_refusal l n p ≡ None
-trace_found l n p h g = rw (lt_leb l.nodes n h, lt_leb ((l.k + l.m) * l.lanes) p g)
+trace_found l n p h g = rw (lt-leb l.nodes n h, lt-leb ((l.k + l.m) * l.lanes) p g)
 
 -- an address that was given
 pub located : (l : Layout) (s : Stripe) (c : ℕ) (a : Address) → Ok a ≡ outcome (locate_refusal l s c) (address_of l s c) → a ≡ address_of l s c
@@ -32,11 +32,11 @@ traced l n p m e =
     let none = outcome_done (trace_refusal l n p) (member_of l n p) m (sym e) in
     record {
       is = sym (outcome_value (trace_refusal l n p) (member_of l n p) m (sym e));
-      node = leb_false l.nodes n (refuse_not (leb l.nodes n) Node _ none);
-      place = leb_false ((l.k + l.m) * l.lanes) p (refuse_not (leb ((l.k + l.m) * l.lanes) p) Place None (refuse_rest (leb l.nodes n) Node _ none));
+      node = leb-false l.nodes n (refuse_not (leb l.nodes n) Node _ none);
+      place = leb-false ((l.k + l.m) * l.lanes) p (refuse_not (leb ((l.k + l.m) * l.lanes) p) Place None (refuse_rest (leb l.nodes n) Node _ none));
     }
 
 -- what divides a number is not above it
 pub divisor_below : (g n : ℕ) → 0 < n → n % g ≡ 0 → g ≤ n
 divisor_below g n some z =
-    ⊎_elim (λ (h : n < g). absurd (let e : n % g ≡ n = mod_eq_of_lt h in omega arith)) (λ h. h) (cases_lt n g)
+    ⊎_elim (λ (h : n < g). absurd (let e : n % g ≡ n = mod-eq_of_lt h in omega arith)) (λ h. h) (cases_lt n g)

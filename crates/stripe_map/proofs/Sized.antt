@@ -1,6 +1,6 @@
 -- What sizes that fit have. Assumes nothing.
 use Rattle.std.proofs.Common.{◌≡◌, ℕ, ◌+◌, ◌*◌, ◌%◌, ◌≤◌, true, ◌&&◌, eqb, leb, arith}
-use Rattle.std.proofs.lemmas.Bool.{and_parts, leb_true, eqb_true}
+use Rattle.std.proofs.lemmas.Bool.{and_parts, leb-true, eqb-true}
 use Rattle.code.specs.Making.{admitted}
 use Rattle.code.specs.declared.Sizes.{Sizes}
 use Rattle.store.specs.Meaning.{within_limits}
@@ -31,15 +31,15 @@ sized_by h c g t e =
     let m = and_parts (leb 1 c.m) (leb c.m 4) both.1 in
     let l = and_parts (leb 1 t) (leb t 64) d.0 in
     let w = and_parts (leb (c.k + c.m) g) (eqb (h.nodes % g) 0) f.0 in
-    let groups = eqb_true (h.nodes % g) 0 w.1 in
-    let places = eqb_true ((c.k + c.m) * t) h.places f.1 in
+    let groups = eqb-true (h.nodes % g) 0 w.1 in
+    let places = eqb-true ((c.k + c.m) * t) h.places f.1 in
     record {
       stock = (limits.nodes_least, limits.nodes_most);
-      few = (leb_true 1 c.k k.0, leb_true c.k 12 k.1);
-      checks = (leb_true 1 c.m m.0, leb_true c.m 4 m.1);
-      lane = (leb_true 1 t l.0, leb_true t 64 l.1);
+      few = (leb-true 1 c.k k.0, leb-true c.k 12 k.1);
+      checks = (leb-true 1 c.m m.0, leb-true c.m 4 m.1);
+      lane = (leb-true 1 t l.0, leb-true t 64 l.1);
       room = omega (arith, places, limits.places_most);
-      wide = (leb_true (c.k + c.m) g w.0, divisor_below g h.nodes (omega (arith, limits.nodes_least)) groups);
+      wide = (leb-true (c.k + c.m) g w.0, divisor_below g h.nodes (omega (arith, limits.nodes_least)) groups);
       groups = groups;
       places = places;
     }

@@ -1,6 +1,6 @@
 -- Blocks in a buffer that is written byte by byte. Assumes nothing.
-use Rattle.std.proofs.Common.{◌≡◌, ℕ, ◌+◌, ◌-◌, ◌*◌, ◌/◌, ◌%◌, ◌<◌, ◌≤◌, min, false, List, length, get_or, take, sym, ap, ◌∙◌, subst, ⊎_elim, mod_lt, div_add_mod', arith, lit<}
-use Rattle.std.proofs.lemmas.List.{ext_get_or, length_take, length_take_le, length_drop, get_or_take}
+use Rattle.std.proofs.Common.{◌≡◌, ℕ, ◌+◌, ◌-◌, ◌*◌, ◌/◌, ◌%◌, ◌<◌, ◌≤◌, min, false, List, length, get_or, take, sym, ap, ◌∙◌, subst, ⊎_elim, mod-lt, div-add-mod', arith, lit<}
+use Rattle.std.proofs.lemmas.List.{ext_get_or, length-take, length-take-le, length-drop, get_or-take}
 use Rattle.std.proofs.lemmas.Bool.{cases_lt, cases_eq, false≢true}
 use Rattle.block.proofs.Bytes.{same_block}
 use Rattle.block.specs.Block.{Blocks}
@@ -12,8 +12,8 @@ use Rattle.striping.specs.Stripe.{Stores, Leaves}
 pub same_part : (xs ys : List ℕ) (c : ℕ) → length xs ≡ length ys → ((j : ℕ) → j < 64 → get_or xs (c * 64 + j) 0 ≡ get_or ys (c * 64 + j) 0)
     → block_at xs c ≡ block_at ys c
 same_part xs ys c len h =
-    ext_get_or 0 (block_at xs c) (block_at ys c) (simp (length_take, length_drop) (ap (λ n. min 64 (n - c * 64)) len))
-    (λ j l. let l64 : j < 64 = omega (arith, simp length_take at l) in block_byte xs c j l64 ∙ h j l64 ∙ sym (block_byte ys c j l64))
+    ext_get_or 0 (block_at xs c) (block_at ys c) (simp (length-take, length-drop) (ap (λ n. min 64 (n - c * 64)) len))
+    (λ j l. let l64 : j < 64 = omega (arith, simp length-take at l) in block_byte xs c j l64 ∙ h j l64 ∙ sym (block_byte ys c j l64))
 
 -- a block that is written byte by byte
 pub written_here : (xs block : List ℕ) (i : ℕ) → length block ≡ 64 → i * 64 + 64 ≤ length xs
@@ -39,8 +39,8 @@ front_block xs ys i n l rx ry h =
 -- and their bytes, where the blocks are
 pub front_byte : (xs ys : List ℕ) (n : ℕ) → ((i : ℕ) → i < n → block_at xs i ≡ block_at ys i) → (j : ℕ) → j < n * 64 → get_or xs j 0 ≡ get_or ys j 0
 front_byte xs ys n h j l =
-    let at : j / 64 * 64 + j % 64 ≡ j = div_add_mod' j 64 in
-    let small : j % 64 < 64 = mod_lt j (lit< tt) in
+    let at : j / 64 * 64 + j % 64 ≡ j = div-add-mod' j 64 in
+    let small : j % 64 < 64 = mod-lt j (lit< tt) in
     ap (λ x. get_or xs x 0) (sym at) ∙ sym (block_byte xs (j / 64) (j % 64) small)
     ∙ ap (λ b. get_or b (j % 64) 0) (h (j / 64) (omega arith)) ∙ block_byte ys (j / 64) (j % 64) small ∙ ap (λ x. get_or ys x 0) at
 
@@ -62,5 +62,5 @@ pub front_part : (xs part : List ℕ) → length part ≤ length xs → ((j : �
 front_part xs part room h =
     let zero_off : length part - 0 ≡ length part = omega arith in
     ap (λ n. take n xs) zero_off
-    ∙ ext_get_or 0 (take (length part) xs) part (length_take_le (length part) xs room)
-    (λ j l. let lp : j < length part = omega (arith, simp length_take at l) in get_or_take (length part) xs j 0 lp ∙ h j lp)
+    ∙ ext_get_or 0 (take (length part) xs) part (length-take-le (length part) xs room)
+    (λ j l. let lp : j < length part = omega (arith, simp length-take at l) in get_or-take (length part) xs j 0 lp ∙ h j lp)

@@ -4,7 +4,7 @@ use Rattle.std.specs.Result.{result_ok}
 use Rattle.std.specs.Str.Parse.{AllDigits, digits_value, ParsesUnsigned}
 use Rattle.std.specs.Int.{IsInRange}
 use Rattle.std.proofs.lemmas.Str.Parse.{IsNumeralModel, numerals_by_value, tells_digits, parse_plain, not_in_digits}
-use Rattle.std.proofs.lemmas.Fmt.{parse_decimal, decimal_digits_value, decimal_digit, decimal_nonempty, digits_decimal, first_decimal}
+use Rattle.std.proofs.lemmas.Fmt.{parse-decimal, decimal-digits_value, decimal_digit, decimal_nonempty, digits_decimal, first_decimal}
 
 own : IsNumeralModel (AllDigits 10) (digits_value 10)
 own = numerals_by_value (AllDigits 10) tells_digits
@@ -20,8 +20,8 @@ pub reads_decimal :
     → MatchOption (result_ok r) ((n : ℕ) → n < 2 ^ 64 → bs ≡ decimal n → ⊥) (λ n. bs ≡ decimal n)
 reads_decimal E bs (Ok x) h plus zeros =
     let p = parse_plain own {E = E} 64 bs (Ok x) h plus in
-    sym (ap decimal p.1 ∙ decimal_digits_value own bs p.0.0 p.0.1 zeros p.0.2)
-reads_decimal E bs (Err e) h plus zeros = λ n small same. no_ok E (Err e) n refl (parse_decimal {E = E} 64 n bs (Err e) small small same h)
+    sym (ap decimal p.1 ∙ decimal-digits_value own bs p.0.0 p.0.1 zeros p.0.2)
+reads_decimal E bs (Err e) h plus zeros = λ n small same. no_ok E (Err e) n refl (parse-decimal {E = E} 64 n bs (Err e) small small same h)
 
 -- no number is written with a plus in front
 pub no_plus : (bs : List ℕ) (n : ℕ) → n < 2 ^ 64 → get_or bs 0 0 ≡ 43 → bs ≡ decimal n → ⊥

@@ -1,8 +1,8 @@
-use Rattle.std.proofs.Common.{◌<◌, ◌≢◌, length, arith, get_or_set_other, get_or_set_same, below_more}
+use Rattle.std.proofs.Common.{◌<◌, ◌≢◌, length, arith, get_or-set_other, get_or-set_same, below_more}
 use Rattle.block.proofs.wipe.Goals as goal
 
-pub loop_x_preserved : goal.loop_x_preserved
-loop_x_preserved c =
+pub loop-x-preserved : goal.loop-x-preserved
+loop-x-preserved c =
     below_more _ _
-    (λ k h. let ne : k ≢ c.loop_x.x_index = omega arith in rw get_or_set_other (c.loop_x.invariant k h))
-    (let lt : c.loop_x.x_index < length c.loop_x.out = omega arith in rw get_or_set_same)
+    (λ k h. let ne : k ≢ c.loop-x.x-index = omega arith in rw get_or-set_other (c.loop-x.invariant k h))
+    (let lt : c.loop-x.x-index < length c.loop-x.out = omega arith in rw get_or-set_same)

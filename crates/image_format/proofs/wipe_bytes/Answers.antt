@@ -15,8 +15,8 @@ wiped xs last a b w e m l q n z k =
     (cases_lt k e))
     (cases_lt k a)
 
-pub returns_then_from_end : goal.returns_then_from_end
-returns_then_from_end c = wiped c.args.image.now c.wipe.new.out c.args.from c.args.to _ c.min_end.result c.min_end.ensures c.if_from_end.true refl (omega arith) c.wipe.ensures
+pub returns-then-from-end : goal.returns-then-from-end
+returns-then-from-end c = wiped c.args.image.now c.wipe.new.out c.args.from c.args.to _ c.min-end.result c.min-end.ensures c.if-from-end.true refl (omega arith) c.wipe.ensures
 
-pub returns_else_from_end : goal.returns_else_from_end
-returns_else_from_end c k = ⊎_elim (λ (q : k < length c.args.image.now). grind (arith, nat_tests)) (λ (q : length c.args.image.now ≤ k). let z = get_or_past c.args.image.now k 0 q in grind (arith, nat_tests)) (cases_lt k (length c.args.image.now))
+pub returns-else-from-end : goal.returns-else-from-end
+returns-else-from-end c k = ⊎_elim (λ (q : k < length c.args.image.now). grind (arith, nat_tests)) (λ (q : length c.args.image.now ≤ k). let z = get_or_past c.args.image.now k 0 q in grind (arith, nat_tests)) (cases_lt k (length c.args.image.now))

@@ -10,5 +10,5 @@ over : (xs new last : List ℕ) (a w : ℕ) → w ≡ length new → length last
 over xs new last a w e n m l k =
     ⊎_elim (λ (q : k < a). grind (arith, places, nat_tests)) (λ (q : a ≤ k). ⊎_elim (λ (r : k < a + length new). grind (arith, places, nat_tests)) (λ (r : a + length new ≤ k). grind (arith, places, nat_tests)) (cases_lt k (a + length new))) (cases_lt k a)
 
-pub returns_then_bytes_image : goal.returns_then_bytes_image
-returns_then_bytes_image c = over c.args.image.now c.args.bytes.now c.copy_from_slice.new.self c.args.at _ (omega arith) (omega arith) c.copy_from_slice.ensures.after
+pub returns-then-bytes-image : goal.returns-then-bytes-image
+returns-then-bytes-image c = over c.args.image.now c.args.bytes.now c.copy_from_slice.new.self c.args.at _ (omega arith) (omega arith) c.copy_from_slice.ensures.after

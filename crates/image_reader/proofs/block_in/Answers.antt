@@ -1,5 +1,5 @@
-use Rattle.std.proofs.Common.{◌≡◌, get_or, refl, arith, length_drop, length_take, take_all}
-use Rattle.std.proofs.lemmas.Bool.{and_from, eq_eqb}
+use Rattle.std.proofs.Common.{◌≡◌, get_or, refl, arith, length-drop, length-take, take_all}
+use Rattle.std.proofs.lemmas.Bool.{and_from, eq-eqb}
 use Rattle.image_reader.proofs.block_in.Goals as goal
 
 pub returns : goal.returns
@@ -13,8 +13,8 @@ returns c =
     let a5 : get_or cell 5 0 ≡ 0 = omega arith in
     let a6 : get_or cell 6 0 ≡ 0 = omega arith in
     let a7 : get_or cell 7 0 ≡ 0 = omega arith in (
-      and_from _ _ (eq_eqb _ _ a0) (and_from _ _ (eq_eqb _ _ a1) (and_from _ _ (eq_eqb _ _ a2) (and_from _ _ (eq_eqb _ _ a3)
-          (and_from _ _ (and_from _ _ (and_from _ _ (and_from _ _ refl (eq_eqb _ _ a4)) (eq_eqb _ _ a5)) (eq_eqb _ _ a6)) (eq_eqb _ _ a7))))),
-      take_all _ _ (simp length_drop (omega arith)),
-      simp (length_take, length_drop) (omega arith),
+      and_from _ _ (eq-eqb _ _ a0) (and_from _ _ (eq-eqb _ _ a1) (and_from _ _ (eq-eqb _ _ a2) (and_from _ _ (eq-eqb _ _ a3)
+          (and_from _ _ (and_from _ _ (and_from _ _ (and_from _ _ refl (eq-eqb _ _ a4)) (eq-eqb _ _ a5)) (eq-eqb _ _ a6)) (eq-eqb _ _ a7))))),
+      take_all _ _ (simp length-drop (omega arith)),
+      simp (length-take, length-drop) (omega arith),
     )

@@ -1,8 +1,8 @@
 use Rattle.std.proofs.Common.{◌≡◌, ◌-◌, ◌≤◌, length, take, vec_items}
 use Rattle.striping.proofs.carry_all.Given as goal
 
-abbrev pub invariant_loop_at : goal.invariant_loop_at
-invariant_loop_at g l = (l.at ≤ length l.file) × (vec_items l.out ≡ take l.at l.file)
+abbrev pub invariant-loop-at : goal.invariant-loop-at
+invariant-loop-at g l = (l.at ≤ length l.file) × (vec_items l.out ≡ take l.at l.file)
 
-abbrev pub decreases_loop_at : goal.decreases_loop_at
-decreases_loop_at g l = length l.file - l.at
+abbrev pub decreases-loop-at : goal.decreases-loop-at
+decreases-loop-at g l = length l.file - l.at

@@ -2,7 +2,7 @@ use Rattle.std.proofs.Common.{◌≡◌, ℕ, ◌<◌, true, false, get_or}
 use Rattle.code.specs.Calls.{block_at, marks_held}
 use Rattle.striping.proofs.forget.Given as goal
 
-abbrev pub invariant_loop_i : goal.invariant_loop_i
-invariant_loop_i l =
+abbrev pub invariant-loop-i : goal.invariant-loop-i
+invariant-loop-i l =
     ((i : ℕ) → marks_held l.marks i ≡ true → block_at l.stripe i ≡ block_at l.initial.stripe i)
     × ((i j : ℕ) → i < l.i → j < 64 → marks_held l.marks i ≡ false → get_or (block_at l.stripe i) j 0 ≡ 0)

@@ -6,29 +6,29 @@ use Rattle.code.proofs.Agreement.{rebuilt}
 use Rattle.striping.specs.Stripe.{Stores, Leaves}
 use Rattle.striping.proofs.Blocks.{one_more, still_left}
 use Rattle.striping.proofs.restore_all.Goals as goal
-use Rattle.striping.proofs.restore_all.Goals.{then_marks_i_eq0, else_marks_i_eq0}
+use Rattle.striping.proofs.restore_all.Goals.{then-marks-i-eq0, else-marks-i-eq0}
 
-pub loop_i_preserved : goal.loop_i_preserved
-loop_i_preserved g c =
+pub loop-i-preserved : goal.loop-i-preserved
+loop-i-preserved g c =
     let code = c.args.code.now in
     let coding = g.C.Code.coding code in
     let marks = c.args.marks.now in
     let n = length marks in
-    let i = c.loop_i.i in
-    let was = c.loop_i.stripe in
+    let i = c.loop-i.i in
+    let was = c.loop-i.stripe in
     λ w word left.
-    let before = c.loop_i.invariant w word left in
-    elim c.if_marks_i_eq0.branch [
-      | then_marks_i_eq0 s ↦
+    let before = c.loop-i.invariant w word left in
+    elim c.if-marks-i-eq0.branch [
+      | then-marks-i-eq0 s ↦
           let long : n ≡ coding.k + coding.m = c.requires.long.0 in
           let here = rebuilt coding (g.C.Code.completes code) (g.C.Code.determines code) marks was
           (subst (λ x. coding.k ≤ count (marks_held marks) x) long c.requires.enough) w word
           (λ x l. before.0 x (omega arith)) i (omega arith) in
-          subst (λ z. Leaves marks n z w × Stores (i + 1) z w) (sym s.stripe_is) (
-            still_left marks n was s.restore.new.stripe w i (mark_missing marks i s.if_marks_i_eq0.true) s.restore.ensures.others before.0,
+          subst (λ z. Leaves marks n z w × Stores (i + 1) z w) (sym s.stripe-is) (
+            still_left marks n was s.restore.new.stripe w i (mark_missing marks i s.if-marks-i-eq0.true) s.restore.ensures.others before.0,
             one_more was s.restore.new.stripe w i s.restore.ensures.others (s.restore.ensures.here ∙ here) before.1,
           )
-      | else_marks_i_eq0 s ↦
-          subst (λ z. Leaves marks n z w × Stores (i + 1) z w) (sym s.stripe_is)
-          (before.0, one_more was was w i (λ x ne. refl) (before.0 i (omega arith) (mark_held marks i s.if_marks_i_eq0.false)) before.1)
+      | else-marks-i-eq0 s ↦
+          subst (λ z. Leaves marks n z w × Stores (i + 1) z w) (sym s.stripe-is)
+          (before.0, one_more was was w i (λ x ne. refl) (before.0 i (omega arith) (mark_held marks i s.if-marks-i-eq0.false)) before.1)
     ]

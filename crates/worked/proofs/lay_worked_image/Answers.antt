@@ -4,16 +4,16 @@ use Rattle.block_file.specs.File.{shape_of}
 use Rattle.worked.proofs.Bytes.{worked_values, as_expected}
 use Rattle.worked.proofs.lay_worked_image.Goals as goal
 
-pub returns_in_err_check : goal.returns_in_err_check
-returns_in_err_check c =
-    let p = err_from_is_err_and c.from_residual.result c.from_residual.ensures.1 in
-    rw (p.1, p.2) (record { answer = c.in_err_check.ensures; laid = tt; untouched = refl; worked = worked_values })
+pub returns-in_err-check : goal.returns-in_err-check
+returns-in_err-check c =
+    let p = err_from_is_err_and c.from-residual.result c.from-residual.ensures.1 in
+    rw (p.1, p.2) (record { answer = c.in_err-check.ensures; laid = tt; untouched = refl; worked = worked_values })
 
 pub returns : goal.returns
 returns c =
     let f = c.fill.new.file in
     record {
-      answer = c.in_ok_check.ensures;
+      answer = c.in_ok-check.ensures;
       laid = c.copy_from_slice.ensures.after ∙ c.image.ensures ∙ as_expected (shape_of f) f.image.now c.fill.ensures.sound c.fill.ensures.means;
       untouched = tt;
       worked = worked_values;

@@ -19,21 +19,21 @@ found (Some a) block x b e i = ap is_some e ∙ i
 tested : (b : Bool) (x : Refusal) (c : Bool) → b ≡ c → refuse (not b) x None ≡ refuse (not c) x None
 tested b x c e = rw e
 
-pub returns_then_is_none : goal.returns_then_is_none
-returns_then_is_none c k =
+pub returns-then-is_none : goal.returns-then-is_none
+returns-then-is_none c k =
     let f = c.args.self.now in
     let s = c.args.slot in
     let n = c.args.node in
-    let p = c.loop_place.place in
-    let i : is_some ((grid_of f).cell s n p) ≡ false = found c.block_at_block.result (λ x. x.now) ((grid_of f).cell s n p) false (c.block_at_block.ensures.cell k) c.if_is_none.ensures in
+    let p = c.loop-place.place in
+    let i : is_some ((grid_of f).cell s n p) ≡ false = found c.block-at-block.result (λ x. x.now) ((grid_of f).cell s n p) false (c.block-at-block.ensures.cell k) c.if-is_none.ensures in
     let e : test f s n p ≡ Some (Incomplete n p) = tested (is_some ((grid_of f).cell s n p)) (Incomplete n p) false i in
-    sym (first_found (test f s n) p f.places (c.loop_place.invariant k) (ap is_some e) c.loop_place_test.true ∙ e)
+    sym (first_found (test f s n) p f.places (c.loop-place.invariant k) (ap is_some e) c.loop-place-test.true ∙ e)
 
-pub loop_place_preserved : goal.loop_place_preserved
-loop_place_preserved c k =
+pub loop-place-preserved : goal.loop-place-preserved
+loop-place-preserved c k =
     let f = c.args.self.now in
     let s = c.args.slot in
     let n = c.args.node in
-    let p = c.loop_place.place in
-    let i : is_some ((grid_of f).cell s n p) ≡ true = found c.block_at_block.result (λ x. x.now) ((grid_of f).cell s n p) true (c.block_at_block.ensures.cell k) c.if_is_none.ensures in
-    first_more (test f s n) p (c.loop_place.invariant k) (tested (is_some ((grid_of f).cell s n p)) (Incomplete n p) true i)
+    let p = c.loop-place.place in
+    let i : is_some ((grid_of f).cell s n p) ≡ true = found c.block-at-block.result (λ x. x.now) ((grid_of f).cell s n p) true (c.block-at-block.ensures.cell k) c.if-is_none.ensures in
+    first_more (test f s n) p (c.loop-place.invariant k) (tested (is_some ((grid_of f).cell s n p)) (Incomplete n p) true i)

@@ -11,17 +11,17 @@ still o x b e i = ap is_some (sym e) ∙ sym i
 nothing : (o x : Option Refusal) → o ≡ x → false ≡ is_some o → x ≡ None
 nothing o x e i = sym e ∙ none_from o (sym i)
 
-pub returns_then_is_some : goal.returns_then_is_some
-returns_then_is_some c k =
+pub returns-then-is_some : goal.returns-then-is_some
+returns-then-is_some c k =
     let b = c.args.self.now in
     let f = absent_at (shape_of b) ((grid_of b).cell c.args.slot) in
-    let n = c.loop_node.node in
-    let e = c.absent_refusal.ensures k in
-    e ∙ sym (first_found f n b.nodes (c.loop_node.invariant k) (still c.absent_refusal.result (f n) true e c.if_is_some.ensures) c.loop_node_test.true)
+    let n = c.loop-node.node in
+    let e = c.absent-refusal.ensures k in
+    e ∙ sym (first_found f n b.nodes (c.loop-node.invariant k) (still c.absent-refusal.result (f n) true e c.if-is_some.ensures) c.loop-node-test.true)
 
-pub loop_node_preserved : goal.loop_node_preserved
-loop_node_preserved c k =
+pub loop-node-preserved : goal.loop-node-preserved
+loop-node-preserved c k =
     let b = c.args.self.now in
     let f = absent_at (shape_of b) ((grid_of b).cell c.args.slot) in
-    let n = c.loop_node.node in
-    first_more f n (c.loop_node.invariant k) (nothing c.absent_refusal.result (f n) (c.absent_refusal.ensures k) c.if_is_some.ensures)
+    let n = c.loop-node.node in
+    first_more f n (c.loop-node.invariant k) (nothing c.absent-refusal.result (f n) (c.absent-refusal.ensures k) c.if-is_some.ensures)

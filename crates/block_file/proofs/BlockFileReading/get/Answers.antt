@@ -17,7 +17,7 @@ returns c k =
     let n = c.args.node in
     let p = c.args.place in
     let old = c.args.out.now in
-    let v = c.in_Some.block.now in
-    let e : row_of h xs (index h s n p) ≡ Some v = sym (row_at h (marks_of h xs) (row_of h xs) s n p c.if_slot_self.false c.if_node_self.false c.if_place_self.false) ∙ c.in_Some.ensures.cell k in
+    let v = c.in-Some.block.now in
+    let e : row_of h xs (index h s n p) ≡ Some v = sym (row_at h (marks_of h xs) (row_of h xs) s n p c.if-slot-self.false c.if-node-self.false c.if-place-self.false) ∙ c.in-Some.ensures.cell k in
     subst (λ (x : List ℕ). GetAnswer (means (grid_of f)) s n p old (Ok tt) x) (sym c.copy_from_slice.ensures.after)
-    (get_next h (marks_of h xs) (row_of h xs) s n p c.if_slot_self.false c.if_node_self.false c.if_place_self.false (λ q. c.in_default.not_Empty (c.state_of_state.ensures ∙ q)) old c.if_out_ne64.false v e)
+    (get_next h (marks_of h xs) (row_of h xs) s n p c.if-slot-self.false c.if-node-self.false c.if-place-self.false (λ q. c.in_default.not-Empty (c.state-of-state.ensures ∙ q)) old c.if-out-ne64.false v e)

@@ -4,10 +4,10 @@ use Rattle.image.specs.Crc.{shifts}
 use Rattle.image.proofs.Rests.{bit_more}
 use Rattle.image.proofs.crc.take.Goals as goal
 
-pub loop_bit_preserved : goal.loop_bit_preserved
-loop_bit_preserved c = bit_more _ c.loop_bit.-bit _ _ c.loop_bit.invariant c.shift_rest.ensures
+pub loop-bit-preserved : goal.loop-bit-preserved
+loop-bit-preserved c = bit_more _ c.loop-bit.-bit _ _ c.loop-bit.invariant c.shift-rest.ensures
 
 pub returns : goal.returns
 returns c =
-    let all : c.loop_bit.-bit ≡ 8 = search rules in
-    c.loop_bit.invariant ∙ ap₂ shifts (ap (bit_xor c.args.old) c.from.ensures) all
+    let all : c.loop-bit.-bit ≡ 8 = search rules in
+    c.loop-bit.invariant ∙ ap₂ shifts (ap (bit_xor c.args.old) c.from.ensures) all

@@ -3,5 +3,5 @@ use Rattle.block.specs.Count.{count}
 use Rattle.image.specs.Held.{has}
 use Rattle.image.proofs.report.held.Given as goal
 
-abbrev pub invariant_loop_place : goal.invariant_loop_place
-invariant_loop_place l = (l.held ≡ count (has l.reader l.slot l.node) l.place) × (l.held ≤ l.place)
+abbrev pub invariant-loop-place : goal.invariant-loop-place
+invariant-loop-place l = (l.held ≡ count (has l.reader l.slot l.node) l.place) × (l.held ≤ l.place)

@@ -4,8 +4,8 @@ use Rattle.level.specs.Level.{Fits}
 use Rattle.level.specs.Checks.{Collected, CollectedTo}
 use Rattle.spread.proofs.collect.collect_node.Given as goal
 
-abbrev pub invariant_loop_place : goal.invariant_loop_place
-invariant_loop_place g l =
+abbrev pub invariant-loop-place : goal.invariant-loop-place
+invariant-loop-place g l =
     g.S.Reading.sound l.below → Fits l.layout (g.S.Reading.meaning l.below).shape → l.slot < (g.S.Reading.meaning l.below).shape.slots
     → Collected l.layout (cells_of ((g.S.Reading.meaning l.below).slot l.slot)) l.node l.initial.bytes
     → CollectedTo l.layout (cells_of ((g.S.Reading.meaning l.below).slot l.slot)) l.node l.place l.bytes

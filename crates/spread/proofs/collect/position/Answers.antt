@@ -6,29 +6,29 @@ use Rattle.level.specs.Checks.{start_of, position_of}
 use Rattle.level.proofs.Collecting.{few_data, position_within}
 use Rattle.spread.proofs.collect.position.Goals as goal
 
-pub start_requires : goal.start_requires
-start_requires c =
+pub start-requires : goal.start-requires
+start-requires c =
     let l = c.args.layout.now in
-    let t = traced l c.args.node c.args.place c.in_Ok.member c.in_Ok.ensures in
+    let t = traced l c.args.node c.args.place c.in-Ok.member c.in-Ok.ensures in
     subst (λ m. Among l m.stripe) (sym t.is) (stripe_among l c.args.node c.args.place t.node)
 
 -- the sum is the position
-sum_is : (c : goal.AfterStructKnown·1) → c.start.result + c.in_Ok.member.number ≡ position_of c.args.layout.now c.args.node c.args.place
+sum_is : (c : goal.After-struct-known·1) → c.start.result + c.in-Ok.member.number ≡ position_of c.args.layout.now c.args.node c.args.place
 sum_is c =
     let l = c.args.layout.now in
-    let t = traced l c.args.node c.args.place c.in_Ok.member c.in_Ok.ensures in
-    ap (λ x. x + c.in_Ok.member.number) c.start.ensures.is ∙ ap (λ m. start_of l m.stripe + m.number) t.is
+    let t = traced l c.args.node c.args.place c.in-Ok.member c.in-Ok.ensures in
+    ap (λ x. x + c.in-Ok.member.number) c.start.ensures.is ∙ ap (λ m. start_of l m.stripe + m.number) t.is
 
-sum_within : (c : goal.AfterStructKnown·1) → c.start.result + c.in_Ok.member.number < c.args.layout.now.nodes * (c.args.layout.now.k * c.args.layout.now.lanes)
+sum_within : (c : goal.After-struct-known·1) → c.start.result + c.in-Ok.member.number < c.args.layout.now.nodes * (c.args.layout.now.k * c.args.layout.now.lanes)
 sum_within c =
     let l = c.args.layout.now in
     subst (λ x. x < l.nodes * (l.k * l.lanes)) (sym (sum_is c)) (position_within l c.args.node c.args.place c.requires.0 c.requires.1)
 
-pub overflow_add_result : goal.overflow_add_result
-overflow_add_result c =
+pub overflow_add-result : goal.overflow_add-result
+overflow_add-result c =
     let h = sum_within c in
     let few = few_data c.args.layout.now in
     omega arith
 
-pub returns_in_Ok : goal.returns_in_Ok
-returns_in_Ok c = record { is = sum_is c; within = sum_within c }
+pub returns-in-Ok : goal.returns-in-Ok
+returns-in-Ok c = record { is = sum_is c; within = sum_within c }

@@ -19,9 +19,9 @@ returns g c = λ sound laid slot node place long.
     let marks = c.gather.new.marks in
     let bytes = c.gather.new.blocks in
     let old = c.args.out.now in
-    let new = c.rebuild_answer.new.out in
-    let r = c.rebuild_answer.result in
-    let is = (traced l n p c.in_Ok.member c.in_Ok.ensures).is in
+    let new = c.rebuild-answer.new.out in
+    let r = c.rebuild-answer.result in
+    let is = (traced l n p c.in-Ok.member c.in-Ok.ensures).is in
     let st = stripe_of l n p in
     let among = stripe_among l n p node in
     let read : Gathered l m c.args.slot st w marks bytes =
@@ -30,7 +30,7 @@ returns g c = λ sound laid slot node place long.
     (c.gather.ensures sound laid.matches.fits slot (subst (λ y. Among l y.stripe) (sym is) among) (omega (arith, c.requires.marks)))) in
     let q : Rebuilds (fitted l K) (block_of l p) marks bytes old r new =
     subst (λ y. Rebuilds (fitted l K) y.number marks bytes old r new) is
-    (subst (λ k. Rebuilds k c.in_Ok.member.number marks bytes old r new) (fitted_is l K laid.matches.data_blocks laid.matches.check_blocks) c.rebuild_answer.ensures) in
+    (subst (λ k. Rebuilds k c.in-Ok.member.number marks bytes old r new) (fitted_is l K laid.matches.data_blocks laid.matches.check_blocks) c.rebuild-answer.ensures) in
     subst (λ x. RestoreAnswer (from_stripe l K m c.args.slot n p) n p old x new) (sym c.name_cell.ensures)
     (restores l K m c.args.slot st marks bytes (block_of l p) n p old new r (c.gather.auto.marks ∙ c.requires.marks) (c.gather.auto.blocks ∙ c.requires.blocks) long
     (block_below l p w (data_place l p place)) read q)

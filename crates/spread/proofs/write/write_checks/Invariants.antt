@@ -2,8 +2,8 @@ use Rattle.level.specs.Level.{Laid}
 use Rattle.level.specs.Checks.{Ready, Written, NodesTo}
 use Rattle.spread.proofs.write.write_checks.Given as goal
 
-abbrev pub invariant_loop_node : goal.invariant_loop_node
-invariant_loop_node g l =
+abbrev pub invariant-loop-node : goal.invariant-loop-node
+invariant-loop-node g l =
     (g.S.Reading.sound l.initial.below → g.S.Reading.sound l.below)
     × (g.S.Reading.sound l.initial.below
     → Laid l.layout (g.C.Code.coding l.code) (g.S.Reading.meaning l.initial.below)

@@ -2,8 +2,8 @@ use Rattle.level.specs.Level.{Laid}
 use Rattle.level.specs.Checks.{Ready, Written, NodeTo}
 use Rattle.spread.proofs.write.write_node.Given as goal
 
-abbrev pub invariant_loop_place : goal.invariant_loop_place
-invariant_loop_place g l =
+abbrev pub invariant-loop-place : goal.invariant-loop-place
+invariant-loop-place g l =
     (g.S.Reading.sound l.initial.below → g.S.Reading.sound l.below)
     × (g.S.Reading.sound l.initial.below
     → Laid l.layout (g.C.Code.coding l.code) (g.S.Reading.meaning l.initial.below)

@@ -7,5 +7,5 @@ pub returns : goal.returns
 returns c =
     let part = c.args.part.now in
     λ j l.
-    ⊎_elim (λ (h : j < length part). c.loop_j.invariant.0 j (search rules))
-    (λ (h : length part ≤ j). c.loop_j.invariant.1 j (search rules) l ∙ sym (get_or_past part j 0 h)) (cases_lt j (length part))
+    ⊎_elim (λ (h : j < length part). c.loop-j.invariant.0 j (search rules))
+    (λ (h : length part ≤ j). c.loop-j.invariant.1 j (search rules) l ∙ sym (get_or_past part j 0 h)) (cases_lt j (length part))

@@ -1,5 +1,5 @@
 use Rattle.std.proofs.Common.{◌*◌, ◌≤◌, ap, arith}
-use Rattle.std.proofs.lemmas.Nat.{mul_le}
+use Rattle.std.proofs.lemmas.Nat.{mul-le}
 use Rattle.stripe.proofs.level.piece_bytes.Goals as goal
 
 pub returns : goal.returns
@@ -7,5 +7,5 @@ returns c =
     let l = c.args.layout.now in
     record {
       is = ap (λ x. l.nodes * x) c.rank_bytes.ensures.is;
-      some = mul_le 1 1 l.nodes c.rank_bytes.result (omega (arith, l.stock.0)) c.rank_bytes.ensures.some;
+      some = mul-le 1 1 l.nodes c.rank_bytes.result (omega (arith, l.stock.0)) c.rank_bytes.ensures.some;
     }

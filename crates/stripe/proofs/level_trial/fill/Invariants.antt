@@ -1,7 +1,7 @@
 use Rattle.stripe.proofs.level_trial.fill.Given as goal
 
-abbrev pub invariant_loop_place : goal.invariant_loop_place
-invariant_loop_place g l = g.S.Reading.sound l.initial.store → g.S.Reading.sound l.store
+abbrev pub invariant-loop-place : goal.invariant-loop-place
+invariant-loop-place g l = g.S.Reading.sound l.initial.store → g.S.Reading.sound l.store
 
-abbrev pub invariant_loop_rank : goal.invariant_loop_rank
-invariant_loop_rank g l = g.S.Reading.sound l.initial.store → g.S.Reading.sound l.store
+abbrev pub invariant-loop-rank : goal.invariant-loop-rank
+invariant-loop-rank g l = g.S.Reading.sound l.initial.store → g.S.Reading.sound l.store

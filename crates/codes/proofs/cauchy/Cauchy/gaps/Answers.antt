@@ -5,24 +5,24 @@ use Rattle.field.specs.Sums.{multiplied}
 use Rattle.interpolation.proofs.Products.{without, without_itself, without_other, multiplied_more, multiplied_skip}
 use Rattle.recovery.specs.Weights.{point}
 use Rattle.codes.proofs.cauchy.Cauchy.gaps.Goals as goal
-use Rattle.codes.proofs.cauchy.Cauchy.gaps.Goals.{then_chosen_j+then_j_i, else_chosen_j}
+use Rattle.codes.proofs.cauchy.Cauchy.gaps.Goals.{then-chosen-j+then-j-i, else-chosen-j}
 
-pub loop_j_init : goal.loop_j_init
+pub loop-j-init : goal.loop-j-init
 unfolding multiplied
-loop_j_init c = refl
+loop-j-init c = refl
 
-pub loop_j_preserved : goal.loop_j_preserved
-loop_j_preserved c =
+pub loop-j-preserved : goal.loop-j-preserved
+loop-j-preserved c =
     let chosen : ℕ → Bool = λ j. get_or c.args.chosen.now j false in
     let i = c.args.i in
-    let j = c.loop_j.j in
+    let j = c.loop-j.j in
     let difference : ℕ → ℕ = λ x. bit_xor (point c.args.self.now.k c.args.x) (point c.args.self.now.k x) in
-    elim c.if_chosen_j.branch [
-      | then_chosen_j+then_j_i w ↦
-          w.all_is ∙ w.product_all.ensures ∙ ap₂ mul c.loop_j.invariant (ap₂ bit_xor c.point_at.ensures w.point.ensures)
-          ∙ sym (multiplied_more (without chosen i) difference j (without_other chosen i j w.if_j_i.true ∙ w.if_chosen_j.true))
-      | else_chosen_j w ↦
-          w.all_is ∙ c.loop_j.invariant
+    elim c.if-chosen-j.branch [
+      | then-chosen-j+then-j-i w ↦
+          w.all-is ∙ w.product-all.ensures ∙ ap₂ mul c.loop-j.invariant (ap₂ bit_xor c.point-at.ensures w.point.ensures)
+          ∙ sym (multiplied_more (without chosen i) difference j (without_other chosen i j w.if-j-i.true ∙ w.if-chosen-j.true))
+      | else-chosen-j w ↦
+          w.all-is ∙ c.loop-j.invariant
           ∙ sym (multiplied_skip (without chosen i) difference j
-          (⊎_elim (λ s. without_itself chosen i j s.1) (λ s. ap (λ b. b && not (eqb j i)) s) w.else_chosen_j.either))
+          (⊎_elim (λ s. without_itself chosen i j s.1) (λ s. ap (λ b. b && not (eqb j i)) s) w.else-chosen-j.either))
     ]

@@ -4,6 +4,6 @@ use Rattle.field.specs.Sums.{multiplied}
 use Rattle.recovery.specs.Weights.{point}
 use Rattle.codes.proofs.cauchy.Cauchy.gaps.Given as goal
 
-abbrev pub invariant_loop_j : goal.invariant_loop_j
-invariant_loop_j l =
+abbrev pub invariant-loop-j : goal.invariant-loop-j
+invariant-loop-j l =
     l.all ≡ multiplied (λ j. get_or l.chosen j false && not (eqb j l.i)) (λ j. bit_xor (point l.self.k l.x) (point l.self.k j)) l.j

@@ -2,5 +2,5 @@ use Rattle.std.proofs.Common.{◌≡◌, false}
 use Rattle.image_reader.specs.Damage.{present, some_below}
 use Rattle.image_reader.proofs.laid.Laid.any_present.Given as goal
 
-abbrev pub invariant_loop_place : goal.invariant_loop_place
-invariant_loop_place l = some_below (present l.self.shape l.self.bytes.now l.slot l.node) l.place ≡ false
+abbrev pub invariant-loop-place : goal.invariant-loop-place
+invariant-loop-place l = some_below (present l.self.shape l.self.bytes.now l.slot l.node) l.place ≡ false

@@ -3,5 +3,5 @@ use Rattle.refusal.specs.Answer.{first}
 use Rattle.image_reader.specs.Damage.{slot_damage}
 use Rattle.image_reader.proofs.laid.Laid.damage.Given as goal
 
-abbrev pub invariant_loop_slot : goal.invariant_loop_slot
-invariant_loop_slot l = first (slot_damage l.self.shape l.self.bytes.now) l.slot ≡ None
+abbrev pub invariant-loop-slot : goal.invariant-loop-slot
+invariant-loop-slot l = first (slot_damage l.self.shape l.self.bytes.now) l.slot ≡ None

@@ -17,21 +17,21 @@ cut img s b e =
     let width : 8 * s + 8 - 8 * s ≡ 8 = omega arith in
     sym (e ∙ ap (λ w. good_head (take w (drop (8 * s) img))) width)
 
-pub returns_then_not_is_head : goal.returns_then_not_is_head
-returns_then_not_is_head c =
+pub returns-then-not-is_head : goal.returns-then-not-is_head
+returns-then-not-is_head c =
     let img = c.args.self.now.bytes.now in
-    let s = c.loop_slot.slot in
-    let here = refuse_here (not (good_head (head_at img s))) (Damaged (8 * s)) None (ap not (cut img s _ c.if_not_is_head.ensures)) in
-    sym (first_found (test img) s c.args.self.now.shape.slots c.loop_slot.invariant (ap is_some here) c.loop_slot_test.true ∙ here)
+    let s = c.loop-slot.slot in
+    let here = refuse_here (not (good_head (head_at img s))) (Damaged (8 * s)) None (ap not (cut img s _ c.if-not-is_head.ensures)) in
+    sym (first_found (test img) s c.args.self.now.shape.slots c.loop-slot.invariant (ap is_some here) c.loop-slot-test.true ∙ here)
 
-pub loop_slot_preserved : goal.loop_slot_preserved
-loop_slot_preserved c =
+pub loop-slot-preserved : goal.loop-slot-preserved
+loop-slot-preserved c =
     let img = c.args.self.now.bytes.now in
-    let s = c.loop_slot.slot in
-    first_more (test img) s c.loop_slot.invariant
-    (refuse_later (not (good_head (head_at img s))) (Damaged (8 * s)) None (ap not (cut img s _ c.if_not_is_head.ensures)))
+    let s = c.loop-slot.slot in
+    first_more (test img) s c.loop-slot.invariant
+    (refuse_later (not (good_head (head_at img s))) (Damaged (8 * s)) None (ap not (cut img s _ c.if-not-is_head.ensures)))
 
 pub returns : goal.returns
 returns c =
-    let end : c.loop_slot.slot ≡ c.args.self.now.shape.slots = omega arith in
-    sym (ap (first (test c.args.self.now.bytes.now)) (sym end) ∙ c.loop_slot.invariant)
+    let end : c.loop-slot.slot ≡ c.args.self.now.shape.slots = omega arith in
+    sym (ap (first (test c.args.self.now.bytes.now)) (sym end) ∙ c.loop-slot.invariant)

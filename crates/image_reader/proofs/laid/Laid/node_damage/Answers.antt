@@ -9,19 +9,19 @@ use Rattle.image_format.specs.Image.{start}
 use Rattle.image_reader.specs.Damage.{bad_cell}
 use Rattle.image_reader.proofs.laid.Laid.node_damage.Goals as goal
 
-pub returns_then_is_bad : goal.returns_then_is_bad
-returns_then_is_bad c =
+pub returns-then-is_bad : goal.returns-then-is_bad
+returns-then-is_bad c =
     let h = c.args.self.now.shape in
     let img = c.args.self.now.bytes.now in
-    let p = c.loop_place.place in
+    let p = c.loop-place.place in
     let f : ℕ → Option Refusal = λ p. refuse (bad_cell h img c.args.slot c.args.node p) (Damaged (start h (index h c.args.slot c.args.node p))) None in
-    let here = refuse_here (bad_cell h img c.args.slot c.args.node p) (Damaged (start h (index h c.args.slot c.args.node p))) None (sym c.if_is_bad.ensures) in
-    ap (λ x. Some (Damaged x)) c.start_byte.ensures.at ∙ sym (first_found f p h.places c.loop_place.invariant (ap is_some here) c.loop_place_test.true ∙ here)
+    let here = refuse_here (bad_cell h img c.args.slot c.args.node p) (Damaged (start h (index h c.args.slot c.args.node p))) None (sym c.if-is_bad.ensures) in
+    ap (λ x. Some (Damaged x)) c.start-byte.ensures.at ∙ sym (first_found f p h.places c.loop-place.invariant (ap is_some here) c.loop-place-test.true ∙ here)
 
-pub loop_place_preserved : goal.loop_place_preserved
-loop_place_preserved c =
+pub loop-place-preserved : goal.loop-place-preserved
+loop-place-preserved c =
     let h = c.args.self.now.shape in
     let img = c.args.self.now.bytes.now in
-    let p = c.loop_place.place in
-    first_more (λ p. refuse (bad_cell h img c.args.slot c.args.node p) (Damaged (start h (index h c.args.slot c.args.node p))) None) p c.loop_place.invariant
-    (refuse_later (bad_cell h img c.args.slot c.args.node p) (Damaged (start h (index h c.args.slot c.args.node p))) None (sym c.if_is_bad.ensures))
+    let p = c.loop-place.place in
+    first_more (λ p. refuse (bad_cell h img c.args.slot c.args.node p) (Damaged (start h (index h c.args.slot c.args.node p))) None) p c.loop-place.invariant
+    (refuse_later (bad_cell h img c.args.slot c.args.node p) (Damaged (start h (index h c.args.slot c.args.node p))) None (sym c.if-is_bad.ensures))

@@ -6,6 +6,6 @@ use Rattle.image_format.specs.Image.{start}
 use Rattle.image_reader.specs.Damage.{bad_cell}
 use Rattle.image_reader.proofs.laid.Laid.node_damage.Given as goal
 
-abbrev pub invariant_loop_place : goal.invariant_loop_place
-invariant_loop_place l =
+abbrev pub invariant-loop-place : goal.invariant-loop-place
+invariant-loop-place l =
     first (λ p. refuse (bad_cell l.self.shape l.self.bytes.now l.slot l.node p) (Damaged (start l.self.shape (index l.self.shape l.slot l.node p))) None) l.place ≡ None

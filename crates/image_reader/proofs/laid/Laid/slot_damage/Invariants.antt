@@ -3,5 +3,5 @@ use Rattle.refusal.specs.Answer.{first}
 use Rattle.image_reader.specs.Damage.{node_damage}
 use Rattle.image_reader.proofs.laid.Laid.slot_damage.Given as goal
 
-abbrev pub invariant_loop_node : goal.invariant_loop_node
-invariant_loop_node l = first (node_damage l.self.shape l.self.bytes.now l.slot) l.node ≡ None
+abbrev pub invariant-loop-node : goal.invariant-loop-node
+invariant-loop-node l = first (node_damage l.self.shape l.self.bytes.now l.slot) l.node ≡ None

@@ -5,8 +5,8 @@ use Rattle.block_file.specs.File.{shape_of}
 use Rattle.image_reader.proofs.Checked.{unrefused}
 use Rattle.image_reader.proofs.reader.ImageReader.of.Goals as goal
 
-pub new_requires : goal.new_requires
-new_requires c κ =
+pub new-requires : goal.new-requires
+new-requires c κ =
     let k = subst₂ SoundImage (sym (c.shape.ensures c.requires)) (sym c.image.ensures) c.requires in
     record { passed = unrefused c.shape.result c.image.result.now k; sound = k }
 
