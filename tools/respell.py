@@ -25,12 +25,12 @@ suc-add take-add take-append-drop take-put_mid take-put_mid_below take-rest zero
 """.split())
 # Names that the toolchain gives to goals and to what is known at them; they stand in the proofs of functions.
 GOALS = set("""
-After-ok After-struct-known Else-place-width Joined-is_ok absent-refusal all-is as-bytes-digits block-at-block
-byte-index cell-cell chosen-is collect-answer collect-node-answer data-d-end decreases-loop-at else-chosen-i
+After-ok After-struct-known Else-place-width Joined-is_ok absent-refusal all-is as_bytes-digits block_at-block
+byte-index cell-cell chosen-is collect-answer collect_node-answer data-d-end decreases-loop-at else-chosen-i
 else-chosen-j else-digits-eq43 else-digits-eq48 else-digits-gt0 else-digits-gt0-via-else-digits-gt0
 else-digits-gt0-via-then-digits-gt0 else-digits-gt1 else-digits-gt1-via-else-digits-gt1
 else-digits-gt1-via-then-digits-gt1 else-is_ok else-marks-i-eq0 else-marks-i-ne0 field-0 from-residual gaps-2
-get-answer head-bytes-head head-damage-head held-cells if-a-eq0 if-bytes-j-ne0 if-chosen-i if-chosen-j if-eq
+get-answer head_bytes-head head_damage-head held-cells if-a-eq0 if-bytes-j-ne0 if-chosen-i if-chosen-j if-eq
 if-file-shape if-from-end if-group-sizes if-i-self if-image-shape if-is_bad if-is_none if-is_ok if-is_some
 if-is_some-2 if-j-i if-lanes-gt64 if-lanes-lt1 if-marks-i-eq0 if-marks-i-ne0 if-node-self if-node-shape if-not-cell
 if-not-is_admitted if-not-is_head if-not-is_missing if-not-is_sealed if-out-ne64 if-place-self if-place-shape
@@ -44,17 +44,17 @@ loop-bit-preserved loop-byte loop-byte-preserved loop-d loop-d-init loop-d-prese
 loop-i-init loop-i-preserved loop-j loop-j-init loop-j-preserved loop-j-test loop-node loop-node-init
 loop-node-preserved loop-node-test loop-number loop-number-init loop-number-preserved loop-place loop-place-init
 loop-place-preserved loop-place-test loop-slot loop-slot-init loop-slot-preserved loop-slot-test loop-x
-loop-x-preserved min-end n-is new-requires node-damage-damage node-index not-Empty number-index out-is overflow_add-n
+loop-x-preserved min-end n-is new-requires node_damage-damage node-index not-Empty number-index out-is overflow_add-n
 overflow_add-result overflow_add-seen overflow_sub-member overflow_sub-stripe places-first places-place-end point-at
-position-at present-record-bytes product-all product-over product-under put-2 rebuild-answer returns-else-from-end
+position-at present_record-bytes product-all product-over product-under put-2 rebuild-answer returns-else-from-end
 returns-else-i-self returns-in-Err returns-in-Ok returns-in-Some returns-in_default returns-in_default-block
 returns-in_err-check returns-in_err-open returns-in_err-put returns-in_err-put-2 returns-in_err-seal
 returns-then-a-eq0 returns-then-at-self returns-then-bytes-image returns-then-bytes-j-ne0 returns-then-digits-eq43
 returns-then-digits-eq48 returns-then-from-end returns-then-i-self returns-then-is_bad returns-then-is_none
 returns-then-is_some returns-then-is_some-2 returns-then-k-lt1 returns-then-not-cell returns-then-not-is_head
 returns-then-not-is_missing returns-then-slot-self scale-2 seen-is shape-place-end shape-shape shape-slots shift-rest
-sizes-e-end sizes-shape slot-damage-damage start-at start-byte start-from start-from-requires start-requires
-state-of-state state-state stripe-is then-a-eq0 then-chosen-i then-chosen-j then-is_ok then-j-i then-marks-i-eq0
+sizes-e-end sizes-shape slot_damage-damage start-at start-byte start-from start-from-requires start-requires
+state_of-state state-state stripe-is then-a-eq0 then-chosen-i then-chosen-j then-is_ok then-j-i then-marks-i-eq0
 then-marks-i-ne0 then-not-is_missing then-not-is_missing-via-else-not-is_missing
 then-not-is_missing-via-then-not-is_missing then-not-is_sealed word-index x-index
 """.split())

@@ -25,7 +25,7 @@ returns-then-is_none c k =
     let s = c.args.slot in
     let n = c.args.node in
     let p = c.loop-place.place in
-    let i : is_some ((grid_of f).cell s n p) ≡ false = found c.block-at-block.result (λ x. x.now) ((grid_of f).cell s n p) false (c.block-at-block.ensures.cell k) c.if-is_none.ensures in
+    let i : is_some ((grid_of f).cell s n p) ≡ false = found c.block_at-block.result (λ x. x.now) ((grid_of f).cell s n p) false (c.block_at-block.ensures.cell k) c.if-is_none.ensures in
     let e : test f s n p ≡ Some (Incomplete n p) = tested (is_some ((grid_of f).cell s n p)) (Incomplete n p) false i in
     sym (first_found (test f s n) p f.places (c.loop-place.invariant k) (ap is_some e) c.loop-place-test.true ∙ e)
 
@@ -35,5 +35,5 @@ loop-place-preserved c k =
     let s = c.args.slot in
     let n = c.args.node in
     let p = c.loop-place.place in
-    let i : is_some ((grid_of f).cell s n p) ≡ true = found c.block-at-block.result (λ x. x.now) ((grid_of f).cell s n p) true (c.block-at-block.ensures.cell k) c.if-is_none.ensures in
+    let i : is_some ((grid_of f).cell s n p) ≡ true = found c.block_at-block.result (λ x. x.now) ((grid_of f).cell s n p) true (c.block_at-block.ensures.cell k) c.if-is_none.ensures in
     first_more (test f s n) p (c.loop-place.invariant k) (tested (is_some ((grid_of f).cell s n p)) (Incomplete n p) true i)

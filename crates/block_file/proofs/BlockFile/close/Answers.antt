@@ -13,5 +13,5 @@ returns c =
     let xs = f.image.now in
     let ys = c.write_bytes.new.image in
     let s = c.args.slot in
-    let next = λ (k : SoundFile f). seal_image h xs ys k c.write_bytes.auto.image s c.requires.inside.1 c.requires.opened (c.requires.full k) (over_as xs ys c.head-bytes-head.result (head_of Sealed) (8 * s) (8 * s) refl c.head-bytes-head.ensures c.write_bytes.ensures) in
+    let next = λ (k : SoundFile f). seal_image h xs ys k c.write_bytes.auto.image s c.requires.inside.1 c.requires.opened (c.requires.full k) (over_as xs ys c.head_bytes-head.result (head_of Sealed) (8 * s) (8 * s) refl c.head_bytes-head.ensures c.write_bytes.ensures) in
     record { sound = λ k. (next k).sound; means = λ k. (next k).becomes }

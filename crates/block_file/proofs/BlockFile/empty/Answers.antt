@@ -17,5 +17,5 @@ returns c =
     let s = c.args.slot in
     let same = c.write_bytes.auto.image in
     let w = subst (λ (g : Shape). Wiped zs ys (start g (s * (g.nodes * g.places))) (start g (s * (g.nodes * g.places) + g.nodes * g.places))) c.sizes-shape.ensures.shape c.wipe_records.ensures in
-    let next = λ (k : SoundFile f). clear_image h xs ys k (c.wipe_records.auto.image ∙ same) s c.requires.1 zs same (over_as xs zs c.head-bytes-head.result (head_of Empty) (8 * s) (8 * s) refl c.head-bytes-head.ensures c.write_bytes.ensures) w in
+    let next = λ (k : SoundFile f). clear_image h xs ys k (c.wipe_records.auto.image ∙ same) s c.requires.1 zs same (over_as xs zs c.head_bytes-head.result (head_of Empty) (8 * s) (8 * s) refl c.head_bytes-head.ensures c.write_bytes.ensures) w in
     record { sound = λ k. (next k).sound; means = λ k. (next k).becomes }

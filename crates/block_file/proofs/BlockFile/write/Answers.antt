@@ -21,5 +21,5 @@ returns c =
     let n< = c.requires.inside.1.1.0 in
     let p< = c.requires.inside.1.1.1 in
     let is : IsBlock v = record { size = c.requires.size; bytes = λ i. omega (arith, c.type_inv.block i) } in
-    let next = λ (k : SoundFile f). put_image h xs ys k c.write_bytes.auto.image s s< n p n< p< v is c.requires.opened (over_as xs ys c.present-record-bytes.result (1 ∷ s ∷ n ∷ p ∷ 0 ∷ 0 ∷ 0 ∷ 0 ∷ v) c.start-at.result (start h (index h s n p)) c.start-at.ensures.at c.present-record-bytes.ensures c.write_bytes.ensures) in
+    let next = λ (k : SoundFile f). put_image h xs ys k c.write_bytes.auto.image s s< n p n< p< v is c.requires.opened (over_as xs ys c.present_record-bytes.result (1 ∷ s ∷ n ∷ p ∷ 0 ∷ 0 ∷ 0 ∷ 0 ∷ v) c.start-at.result (start h (index h s n p)) c.start-at.ensures.at c.present_record-bytes.ensures c.write_bytes.ensures) in
     record { sound = λ k. (next k).sound; means = λ k. (next k).becomes }

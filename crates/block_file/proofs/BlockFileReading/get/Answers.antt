@@ -20,4 +20,4 @@ returns c k =
     let v = c.in-Some.block.now in
     let e : row_of h xs (index h s n p) ≡ Some v = sym (row_at h (marks_of h xs) (row_of h xs) s n p c.if-slot-self.false c.if-node-self.false c.if-place-self.false) ∙ c.in-Some.ensures.cell k in
     subst (λ (x : List ℕ). GetAnswer (means (grid_of f)) s n p old (Ok tt) x) (sym c.copy_from_slice.ensures.after)
-    (get_next h (marks_of h xs) (row_of h xs) s n p c.if-slot-self.false c.if-node-self.false c.if-place-self.false (λ q. c.in_default.not-Empty (c.state-of-state.ensures ∙ q)) old c.if-out-ne64.false v e)
+    (get_next h (marks_of h xs) (row_of h xs) s n p c.if-slot-self.false c.if-node-self.false c.if-place-self.false (λ q. c.in_default.not-Empty (c.state_of-state.ensures ∙ q)) old c.if-out-ne64.false v e)

@@ -15,7 +15,7 @@ returns-in_default g c = λ sound fits slot.
     let f = absent_at (level_shape l m.shape) (cells_of (m.slot c.args.slot)) in
     let inv = c.loop-node.invariant sound fits slot in
     let here = c.in_default.ensures sound fits slot inv.0 in
-    subst (λ r. AllEnd l m c.args.slot r c.collect-node-answer.new.bytes) (sym c.in_default.is)
+    subst (λ r. AllEnd l m c.args.slot r c.collect_node-answer.new.bytes) (sym c.in_default.is)
     (first_found f c.loop-node.node m.shape.nodes inv.1 (ap is_some here) (omega (arith, c.loop-node-test.true, fits.nodes)) ∙ here)
 
 pub loop-node-preserved : goal.loop-node-preserved

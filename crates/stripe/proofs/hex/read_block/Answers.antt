@@ -17,7 +17,7 @@ loop-j-preserved c = (
 pub returns : goal.returns
 returns c = (
   c.loop-j.invariant.1,
-  subst (λ text. Writes text c.loop-j.block) c.as-bytes-digits.ensures.value
+  subst (λ text. Writes text c.loop-j.block) c.as_bytes-digits.ensures.value
       (record {
         long = omega (arith, c.loop-j.invariant.0, c.loop-j.invariant.1);
         each = λ j h. c.loop-j.invariant.2 j (omega (arith, h, c.loop-j.invariant.1, c.loop-j-test.false));

@@ -6,11 +6,11 @@ use Rattle.image_reader.proofs.laid.Laid.slot_damage.Goals as goal
 pub returns-then-is_some : goal.returns-then-is_some
 returns-then-is_some c =
     let h = c.args.self.now.shape in
-    let is = c.node-damage-damage.ensures in
+    let is = c.node_damage-damage.ensures in
     is ∙ sym (first_found (node_damage h c.args.self.now.bytes.now c.args.slot) c.loop-node.node h.nodes c.loop-node.invariant
     (ap is_some (sym is) ∙ sym c.if-is_some.ensures) c.loop-node-test.true)
 
 pub loop-node-preserved : goal.loop-node-preserved
 loop-node-preserved c =
     first_more (node_damage c.args.self.now.shape c.args.self.now.bytes.now c.args.slot) c.loop-node.node c.loop-node.invariant
-    (sym c.node-damage-damage.ensures ∙ none_from c.node-damage-damage.result (sym c.if-is_some.ensures))
+    (sym c.node_damage-damage.ensures ∙ none_from c.node_damage-damage.result (sym c.if-is_some.ensures))

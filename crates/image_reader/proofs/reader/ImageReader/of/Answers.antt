@@ -6,7 +6,7 @@ use Rattle.image_reader.proofs.Checked.{unrefused}
 use Rattle.image_reader.proofs.reader.ImageReader.of.Goals as goal
 
 pub new-requires : goal.new-requires
-new-requires c κ =
+new-requires c =
     let k = subst₂ SoundImage (sym (c.shape.ensures c.requires)) (sym c.image.ensures) c.requires in
     record { passed = unrefused c.shape.result c.image.result.now k; sound = k }
 
