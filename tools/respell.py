@@ -29,7 +29,7 @@ After-ok After-struct-known Else-place-width Joined-is_ok absent-refusal all-is 
 byte-index cell-cell chosen-is collect-answer collect_node-answer data-d-end decreases-loop-at else-chosen-i
 else-chosen-j else-digits-eq43 else-digits-eq48 else-digits-gt0 else-digits-gt0-via-else-digits-gt0
 else-digits-gt0-via-then-digits-gt0 else-digits-gt1 else-digits-gt1-via-else-digits-gt1
-else-digits-gt1-via-then-digits-gt1 else-is_ok else-marks-i-eq0 else-marks-i-ne0 field-0 from-residual gaps-2
+else-digits-gt1-via-then-digits-gt1 else-is_ok else-marks-i-eq0 else-marks-i-ne0 field-0 from_residual gaps-2
 get-answer head_bytes-head head_damage-head held-cells if-a-eq0 if-bytes-j-ne0 if-chosen-i if-chosen-j if-eq
 if-file-shape if-from-end if-group-sizes if-i-self if-image-shape if-is_bad if-is_none if-is_ok if-is_some
 if-is_some-2 if-j-i if-lanes-gt64 if-lanes-lt1 if-marks-i-eq0 if-marks-i-ne0 if-node-self if-node-shape if-not-cell

@@ -5,9 +5,9 @@ use Rattle.image.proofs.Rests.{bit_more}
 use Rattle.image.proofs.crc.take.Goals as goal
 
 pub loop-bit-preserved : goal.loop-bit-preserved
-loop-bit-preserved c = bit_more _ c.loop-bit.-bit _ _ c.loop-bit.invariant c.shift-rest.ensures
+loop-bit-preserved c = bit_more _ c.loop-bit._bit _ _ c.loop-bit.invariant c.shift-rest.ensures
 
 pub returns : goal.returns
 returns c =
-    let all : c.loop-bit.-bit ≡ 8 = search rules in
+    let all : c.loop-bit._bit ≡ 8 = search rules in
     c.loop-bit.invariant ∙ ap₂ shifts (ap (bit_xor c.args.old) c.from.ensures) all

@@ -19,12 +19,12 @@ loop-place-preserved c =
     elim c.if-is_ok.branch [
       | then-is_ok w ↦ (
         place_more (has c.args.reader.now c.args.slot c.args.node) c.loop-place.place _ _ c.loop-place.invariant.0
-            (there c ∙ w.if-is_ok.true) w.held_is,
-        omega (arith, w.held_is, c.loop-place.invariant.1),
+            (there c ∙ w.if-is_ok.true) w.held-is,
+        omega (arith, w.held-is, c.loop-place.invariant.1),
       )
       | else-is_ok w ↦ (
         place_skip (has c.args.reader.now c.args.slot c.args.node) c.loop-place.place _ _ c.loop-place.invariant.0
-            (there c ∙ w.if-is_ok.false) w.held_is,
-        omega (arith, w.held_is, c.loop-place.invariant.1),
+            (there c ∙ w.if-is_ok.false) w.held-is,
+        omega (arith, w.held-is, c.loop-place.invariant.1),
       )
     ]
