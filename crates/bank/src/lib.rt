@@ -1,4 +1,6 @@
 // A bare store over a table of cells handed in by its maker.
+#![tactic(auto)]
+
 ghost use Rattle.std.specs.Prelude.{◌≡◌, ℕ, ◌+◌, ◌*◌, ◌^◌, ◌<◌, ◌≤◌, true, false, not, ◌&&◌, length, if◌then◌else◌, None, OnErr, OnOk, nat_eq, nat_le, nat_lt};
 ghost use Rattle.store.specs.Meaning.{Meaning, Lawful, vacant, bare};
 ghost use Rattle.store.specs.Calls.{absent_at, incomplete, opening, putting, sealing, losing, clearing, StateAnswer, GetAnswer, OpenAnswer, PutAnswer, SealAnswer, LoseAnswer, ClearAnswer};

@@ -1,4 +1,6 @@
 // Blocks, the unit in which everything is kept.
+#![tactic(auto)]
+
 ghost use Rattle.std.specs.Prelude.{◌≡◌, ℕ, ◌<◌, length, slice_index};
 
 // The bytes of a block.

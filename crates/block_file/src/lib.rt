@@ -1,4 +1,6 @@
 // A bare store in one byte image lent by its maker.
+#![tactic(auto)]
+
 ghost use Rattle.std.specs.Prelude.{◌≡◌, ◌^◌, ◌<◌, length, IfSome, Some, None, MatchOption, OnOk};
 ghost use Rattle.refusal.specs.Answer.{outcome};
 ghost use Rattle.store.specs.declared.kinds.State.TheVariants.{Empty, Open};

@@ -1,20 +1,18 @@
 -- The law of a code from that of its bytes. Assumes nothing.
-use Rattle.std.proofs.Common.{◌≡◌, ℕ, ◌+◌, ◌<◌, ◌≤◌, Bool, true, false, List, [], map, length, get_or, is_some, Some, None, Option, unwrap_or, sym, refl, ap, ◌∙◌, subst, ap₂, ⊎_elim, zero-add, arith, lit<}
+use Rattle.std.proofs.Common.{◌≡◌, ℕ, ◌+◌, ◌<◌, ◌≤◌, [], length, get_or, is_some, unwrap_or, sym, ap, ◌∙◌, subst, ⊎_elim, zero-add, lit<}
 use mathlib.Core.Path.{fun_ext}
-use Rattle.std.specs.List.{range_with_len}
 use Rattle.std.proofs.lemmas.List.FromFn.{get_or-map-range_with_len, length-map-range_with_len}
 use Rattle.std.proofs.lemmas.List.{get_or_past}
 use Rattle.std.proofs.lemmas.Bool.{cases_lt}
-use Rattle.block.specs.Block.{Block, Blocks, Held, IsBlock}
+use Rattle.block.specs.Block.{Blocks, Held, IsBlock}
 use Rattle.block.specs.Count.{count}
 use Rattle.block.proofs.Bytes.{same_block}
 use Rattle.field.specs.Field.{mul}
-use Rattle.field.specs.Sums.{summed}
 use Rattle.field.proofs.Laws.{mul_byte}
 use Rattle.recovery.specs.Recovers.{ByteWord, Recovers, recovered}
 use Rattle.recovery.proofs.Sums.{summed_same, summed_byte}
-use Rattle.code.specs.Word.{Coding, Completes, AllBlocks, Has, AnyKBlocksBelongToExactlyOneWord}
-use Rattle.code.proofs.Law.{Agree, any_k, some_value}
+use Rattle.code.specs.Word.{Completes, AllBlocks, Has, AnyKBlocksBelongToExactlyOneWord}
+use Rattle.code.proofs.Law.{any_k, some_value}
 use Rattle.bytewise.specs.Words.{Recipe, WordByBytes, held, column, completed, coded}
 
 module _ (r : Recipe) (h : Held) where

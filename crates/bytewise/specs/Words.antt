@@ -2,7 +2,7 @@
 use Rattle.std.specs.Prelude.{◌≡◌, ℕ, ◌+◌, ◌<◌, Bool, [], map, is_some, slice_index}
 use Rattle.std.specs.List.{range_with_len}
 use Rattle.std.specs.Option.{unwrap_or}
-use Rattle.block.specs.Block.{Block, Blocks, Held, IsBlock}
+use Rattle.block.specs.Block.{Blocks, Held, IsBlock}
 use Rattle.field.specs.Field.{mul}
 use Rattle.field.specs.Sums.{summed}
 use Rattle.recovery.specs.Recovers.{Rule, Weights, ByteWord, Recovers, recovered}

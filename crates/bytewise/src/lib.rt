@@ -1,4 +1,6 @@
 // Codes that work byte by byte: their checks and rebuilds, written once for all of them.
+#![tactic(auto)]
+
 ghost use Rattle.std.specs.Prelude.{◌≡◌, ℕ, ◌+◌, ◌*◌, ◌<◌, ◌≤◌, Bool, false, ◌&&◌, length, get_or, bit_xor, nat_lt, slice_index, slice_index_or};
 ghost use Rattle.block.specs.Count.{count};
 ghost use Rattle.field.specs.Field.{mul};

@@ -1,10 +1,10 @@
 -- Two words that have the same k blocks are the same, and a rebuild from what is left of a word gives the word.
 -- Assumes nothing.
-use Rattle.std.proofs.Common.{◌≡◌, ℕ, zero, suc, ◌+◌, ◌<◌, ◌≤◌, Bool, true, false, cond, List, [], ◌∷◌, length, is_some, Some, Option, unwrap_or, sym, refl, ap, ◌∙◌, subst, arith}
+use Rattle.std.proofs.Common.{◌≡◌, ℕ, zero, suc, ◌+◌, ◌<◌, ◌≤◌, Bool, true, false, cond, List, [], ◌∷◌, length, is_some, Some, unwrap_or, sym, refl, ap, ◌∙◌, subst, arith}
 use Rattle.std.specs.List.{AllByRecursion as All}
-use Rattle.block.specs.Block.{Block, Blocks, Held, IsBlock}
+use Rattle.block.specs.Block.{Block, Blocks, IsBlock}
 use Rattle.block.specs.Count.{count}
-use Rattle.code.specs.Word.{Coding, Completes, Distinct, Has, lowest, count_held, AnyKBlocksBelongToExactlyOneWord}
+use Rattle.code.specs.Word.{Coding, Completes, Distinct, Has, lowest, AnyKBlocksBelongToExactlyOneWord}
 use Rattle.code.specs.Calls.{block_at, marks_held, marked}
 use Rattle.code.proofs.Law.{Agree, some_value}
 use Rattle.code.proofs.Blocks.{lowest_some, lowest_count}

@@ -1,8 +1,8 @@
 -- Blocks that lie one after the other: the first k of them, and the k lowest that marks leave. Assumes nothing.
-use Rattle.std.proofs.Common.{◌≡◌, ℕ, zero, suc, ◌+◌, ◌-◌, ◌*◌, ◌<◌, ◌≤◌, Bool, true, false, cond, ◌&&◌, ltb, List, [], length, get_or, take, drop, is_some as option_is_some, Some, None, Option, unwrap_or, sym, refl, ap, ◌∙◌, subst, ap₂, ⊎_elim, arith}
+use Rattle.std.proofs.Common.{◌≡◌, ℕ, ◌+◌, ◌*◌, ◌<◌, ◌≤◌, Bool, true, cond, ◌&&◌, ltb, List, [], length, get_or, drop, is_some as option_is_some, Some, None, unwrap_or, sym, ap, ◌∙◌, subst, ap₂, ⊎_elim, arith}
 use Rattle.std.proofs.lemmas.List.{get_or-take, get_or-drop, get_or_past, length-drop, length-take-le}
-use Rattle.std.proofs.lemmas.Bool.{cases_lt, lt-ltb, le-ltb, ltb-true, and_parts, cond-true}
-use Rattle.block.specs.Block.{Block, Held, IsBlock}
+use Rattle.std.proofs.lemmas.Bool.{cases_lt, lt-ltb, ltb-true, and_parts, cond-true}
+use Rattle.block.specs.Block.{Block, IsBlock}
 use Rattle.block.specs.Count.{count}
 use Rattle.block.proofs.Counts.{count_same, count_below}
 use Rattle.code.specs.Word.{AllBlocks, lowest, count_held}

@@ -1,8 +1,7 @@
 -- A rebuild with the right lengths, enough held blocks and a right number is not refused. Assumes nothing.
-use Rattle.std.proofs.Common.{◌≡◌, ℕ, ◌+◌, ◌*◌, ◌<◌, ◌≤◌, Bool, true, false, not, ◌||◌, eqb, ltb, leb, List, length, None, Option, sym, refl, ap, ◌∙◌}
+use Rattle.std.proofs.Common.{◌≡◌, ℕ, ◌+◌, ◌*◌, ◌<◌, ◌≤◌, Bool, true, false, not, ◌||◌, ltb, leb, List, length, None, ap, ◌∙◌}
 use Rattle.std.proofs.lemmas.Bool.{eq-eqb, le-ltb, lt-leb}
 use Rattle.refusal.specs.Answer.{refuse}
-use Rattle.refusal.specs.declared.kind.Refusal.{Refusal}
 use Rattle.refusal.specs.declared.kind.Refusal.TheVariants.{Length, TooFewBlocks, BlockNumber}
 use Rattle.refusal.proofs.Turning.{refuse_later}
 use Rattle.block.specs.Count.{count}

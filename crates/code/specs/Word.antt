@@ -1,5 +1,5 @@
 -- What a code is: its words, and the law that any k blocks belong to exactly one of them.
-use Rattle.std.specs.Prelude.{◌≡◌, ℕ, ◌+◌, ◌<◌, ◌≤◌, Bool, cond, List, [], ◌∷◌, length, is_some, Some, None, Option, ◌≢◌, nat_lt}
+use Rattle.std.specs.Prelude.{◌≡◌, ℕ, ◌+◌, ◌<◌, ◌≤◌, cond, List, [], ◌∷◌, length, is_some, Some, None, ◌≢◌, nat_lt}
 use Rattle.std.specs.List.{AllByRecursion as All}
 use Rattle.block.specs.Block.{Block, Blocks, Held, IsBlock}
 use Rattle.block.specs.Count.{count}

@@ -1,4 +1,6 @@
 // Codes: k data blocks, m check blocks, and any k of them give all of them back.
+#![tactic(auto)]
+
 ghost use Rattle.std.specs.Prelude.{◌≡◌, length, nat_lt};
 ghost use Rattle.block.specs.Count.{count};
 ghost use Rattle.code.specs.Word.{Coding, Limits, AnyKBlocksBelongToExactlyOneWord, Completes};

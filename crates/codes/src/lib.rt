@@ -1,4 +1,6 @@
 // The three codes of the store: copies, the XOR sum, and Cauchy Reed-Solomon.
+#![tactic(auto)]
+
 pub mod cauchy;
 mod cauchy_code;
 pub mod copies;

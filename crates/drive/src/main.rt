@@ -1,5 +1,7 @@
 // Makes the calls of standard input on a bank and on a block file of three nodes, two places and three slots, and says what
 // both answer. At the end the block file's image is checked as a stranger's.
+#![tactic(auto)]
+
 mod call;
 
 use bank::Bank;

@@ -1,5 +1,5 @@
 -- The inverse. Assumes nothing.
-use Rattle.std.proofs.Common.{◌≡◌, ℕ, zero, suc, ◌+◌, ◌-◌, ◌%◌, ◌<◌, ◌≤◌, Bool, true, false, cond, eqb, Some, None, unwrap_or, sym, refl, ap, ◌∙◌, subst, ap₂, ⊎_elim, arith, lit<, lit≤}
+use Rattle.std.proofs.Common.{◌≡◌, ℕ, zero, suc, ◌+◌, ◌-◌, ◌%◌, ◌<◌, ◌≤◌, Bool, true, false, cond, eqb, Some, None, unwrap_or, sym, refl, ap, ◌∙◌, ⊎_elim, arith, lit<, lit≤}
 use Rattle.std.proofs.lemmas.Bool.{eqb-true, eqb-false, eq-eqb, ne_eqb, cases_eq}
 use Rattle.field.specs.Field.{mul, carryless, reduced, power_of, doubled, partner, reciprocal}
 use Rattle.field.specs.Laws.{FieldLaws}

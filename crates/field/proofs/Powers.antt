@@ -1,8 +1,8 @@
 -- The powers of 2 and their logarithms. Assumes nothing.
-use Rattle.std.proofs.Common.{◌≡◌, ℕ, zero, suc, ◌+◌, ◌-◌, ◌*◌, ◌/◌, ◌%◌, ◌<◌, ◌≤◌, cond, eqb, ltb, sym, refl, ap, ◌∙◌, subst, ap₂, add-zero, mod-lt, suc-add, div-add-mod', zero-add, zero-mul, arith, lit<, eqb→eq, ltb→lt}
+use Rattle.std.proofs.Common.{◌≡◌, ℕ, zero, suc, ◌+◌, ◌*◌, ◌/◌, ◌%◌, ◌<◌, cond, eqb, ltb, sym, ap, ◌∙◌, subst, suc-add, div-add-mod', zero-add, zero-mul, arith, lit<, eqb→eq, ltb→lt}
 use Rattle.field.specs.Field.{mul, carryless, reduced, power_of, doubled}
 use Rattle.field.proofs.Computed.{below}
-use Rattle.field.proofs.Laws.{mul_byte, mul_assoc, mul_comm, one_mul, mul_one}
+use Rattle.field.proofs.Laws.{mul_byte, mul_assoc, one_mul, mul_one}
 
 doubled_mul : (a : ℕ) → a < 256 → doubled a ≡ mul 2 a
 unfolding doubled mul reduced carryless

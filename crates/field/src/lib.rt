@@ -1,4 +1,6 @@
 // The field of 256 elements: bytes, with XOR for the sum, and the product by tables of powers and logarithms.
+#![tactic(auto)]
+
 ghost use Rattle.std.specs.Prelude.{◌≡◌, ◌<◌, if◌then◌else◌, Some, None, nat_eq};
 ghost use Rattle.field.specs.Field.{mul, power_of, reciprocal};
 ghost use Rattle.field.specs.Laws.{FieldLaws};

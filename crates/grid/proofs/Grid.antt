@@ -6,7 +6,7 @@ use Rattle.store.specs.declared.kinds.Shape.{Shape}
 use Rattle.store.specs.declared.kinds.State.{State}
 use Rattle.store.specs.declared.kinds.State.TheVariants.{Empty, Open, Sealed}
 use Rattle.block.specs.Block.{Block, IsBlock}
-use Rattle.store.specs.Meaning.{Nodes, Cells, Slot, Meaning, Limits, Tidy, Within, SealedLaw, LawfulSlot, Lawful, bare}
+use Rattle.store.specs.Meaning.{Nodes, Meaning, Limits, Tidy, Within, LawfulSlot, Lawful, bare}
 use Rattle.store.specs.Meaning.Slot.{empty, opened, sealed}
 use Rattle.store.specs.Calls.{cells_of, with_cell, with_node, no_cells, no_nodes, lost_slot, opening, putting, sealing, losing, clearing}
 use Rattle.grid.specs.Grid.{Grid, gone, slot_as, means, Sound, marked, written, dropped, cleared, fresh}

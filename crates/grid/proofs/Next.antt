@@ -1,6 +1,6 @@
 -- What each call makes of a grid in a row: from facts on marks and row, the grid is sound and means what the call says.
-use Rattle.std.proofs.Common.{◌≡◌, ℕ, ◌+◌, ◌*◌, ◌<◌, ◌≤◌, Bool, true, false, cond, not, ◌&&◌, eqb, ltb, leb, List, length, is_some, Some, None, Ok, Err, Option, unwrap_or, sym, refl, ap, ◌∙◌, subst, arith}
-use Rattle.refusal.specs.Answer.{refuse, first}
+use Rattle.std.proofs.Common.{◌≡◌, ℕ, ◌+◌, ◌*◌, ◌<◌, Bool, true, false, cond, not, ◌&&◌, eqb, ltb, leb, List, length, is_some, Some, None, Ok, Err, Option, unwrap_or, sym, refl, ap, ◌∙◌, subst, arith}
+use Rattle.refusal.specs.Answer.{refuse}
 use Rattle.refusal.specs.declared.kind.Refusal.{Refusal}
 use Rattle.refusal.specs.declared.kind.Refusal.TheVariants.{Incomplete}
 use Rattle.refusal.proofs.First.{first_none}

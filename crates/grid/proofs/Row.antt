@@ -1,11 +1,10 @@
 -- The cells of a row that a grid shows.
-use Rattle.std.proofs.Common.{◌≡◌, ℕ, ◌+◌, ◌*◌, ◌<◌, ◌≤◌, Bool, true, false, cond, ◌&&◌, eqb, ltb, leb, Some, None, Option, sym, refl, ap, ◌∙◌}
+use Rattle.std.proofs.Common.{◌≡◌, ℕ, ◌<◌, Bool, true, false, cond, ◌&&◌, eqb, ltb, Some, None, Option, sym, refl, ap, ◌∙◌}
 use Rattle.std.proofs.lemmas.Bool.{lt-ltb, and_from, and_parts, ltb-true, true≢false}
 use Rattle.store.specs.declared.kinds.Shape.{Shape}
 use Rattle.store.specs.declared.kinds.State.{State}
 use Rattle.block.specs.Block.{Block}
 use Rattle.grid.specs.Index.{index, total}
-use Rattle.grid.specs.Grid.{Grid}
 use Rattle.grid.specs.Row.{Row, inside, rowed}
 use Rattle.grid.proofs.Index.{index_eqb, index_below}
 use Rattle.grid.proofs.Grid.{by_same}

@@ -2,6 +2,8 @@
 //
 //     image N P S FILE     the file, as an image of N nodes, P places and S slots
 //     image -              reads such words from standard input, a command to a line
+#![tactic(auto)]
+
 mod command;
 mod crc;
 mod mistake;

@@ -1,4 +1,6 @@
 // A byte image of a bare store: what the block file and the image reader share.
+#![tactic(auto)]
+
 ghost use Rattle.std.specs.Prelude.{◌≡◌, ◌∷◌, length, IfSome, Some, None, MatchOption};
 ghost use Rattle.image_format.specs.Image.{Over, Wiped, head_of, cell_from};
 

@@ -1,5 +1,5 @@
 -- What the check of an image tells. Assumes nothing.
-use Rattle.std.proofs.Common.{◌≡◌, ℕ, ◌<◌, true, not, eqb, List, length, get_or, Some, None, Option, sym, refl, ap, ◌∙◌, ap₂, arith}
+use Rattle.std.proofs.Common.{◌≡◌, ℕ, ◌<◌, true, not, List, length, get_or, Some, None, sym, ap, ◌∙◌, arith}
 use Rattle.std.specs.Option.{option_or}
 use Rattle.std.proofs.lemmas.Bool.{eq-eqb}
 use Rattle.refusal.specs.declared.kind.Refusal.{Refusal}
@@ -8,7 +8,7 @@ use Rattle.refusal.proofs.First.{none_left}
 use Rattle.refusal.proofs.Turning.{refuse_later}
 use Rattle.store.specs.declared.kinds.Shape.{Shape}
 use Rattle.store.specs.Meaning.{within_limits}
-use Rattle.store.proofs.Limits.{limits_from, limits_pass}
+use Rattle.store.proofs.Limits.{limits_pass}
 use Rattle.grid.specs.Index.{table_refusal}
 use Rattle.grid.proofs.Sizes.{sizes_limits, sizes_length}
 use Rattle.image_format.specs.Image.{size, SoundImage}

@@ -1,11 +1,9 @@
 -- An image that nothing damages is as the format has it, and an image as the format has it is damaged by nothing.
 -- Assumes nothing.
-use Rattle.std.proofs.Common.{◌≡◌, ℕ, zero, suc, ◌+◌, ◌-◌, ◌*◌, ◌/◌, ◌%◌, ◌<◌, ◌≤◌, Bool, true, false, cond, not, ◌&&◌, ◌||◌, eqb, ltb, leb, List, ◌∷◌, length, get_or, take, drop, replicate, is_some, Some, None, Option, unwrap_or, sym, refl, ap, ◌∙◌, subst, ap₂, ⊎_elim, mod-lt, mul_comm, div-lt_iff_lt-mul, div-add-mod', arith, length-drop, length-take}
-use Rattle.std.specs.Option.{option_or}
+use Rattle.std.proofs.Common.{◌≡◌, ℕ, ◌+◌, ◌*◌, ◌/◌, ◌%◌, ◌<◌, ◌≤◌, Bool, true, false, cond, not, ◌&&◌, ◌||◌, eqb, ltb, List, ◌∷◌, length, get_or, drop, replicate, is_some, Some, None, Option, unwrap_or, sym, refl, ap, ◌∙◌, subst, ap₂, ⊎_elim, mod-lt, div-lt_iff_lt-mul, div-add-mod', arith, length-drop, length-take}
 use Rattle.std.proofs.lemmas.List.{get_or-take, get_or-drop, get_or_past}
-use Rattle.std.proofs.lemmas.Bool.{cases_Bool, cases_lt, cond-true, cond-false, lt-ltb, le-ltb, and_parts, not_from_false, not-false, false≢true, true≢false}
+use Rattle.std.proofs.lemmas.Bool.{cases_Bool, cases_lt, cond-true, cond-false, lt-ltb, le-ltb, not-false, false≢true, true≢false}
 use Rattle.refusal.specs.Answer.{refuse, first}
-use Rattle.refusal.specs.declared.kind.Refusal.{Refusal}
 use Rattle.refusal.specs.declared.kind.Refusal.TheVariants.{Damaged}
 use Rattle.refusal.proofs.First.{first_none, first_all, none_left}
 use Rattle.refusal.proofs.Turning.{refuse_later, refuse_not}
@@ -13,13 +11,11 @@ use Rattle.block.specs.Block.{Block, IsBlock}
 use Rattle.store.specs.declared.kinds.Shape.{Shape}
 use Rattle.store.specs.declared.kinds.State.{State}
 use Rattle.store.specs.declared.kinds.State.TheVariants.{Empty, Open, Sealed}
-use Rattle.store.specs.Meaning.{Limits, Tidy, Within}
+use Rattle.store.specs.Meaning.{Limits, Within}
 use Rattle.grid.specs.Index.{index, total}
-use Rattle.grid.specs.Grid.{Sound}
-use Rattle.grid.specs.Row.{inside}
 use Rattle.grid.proofs.Index.{index_below, index_slot, index_node, index_place}
 use Rattle.grid.proofs.Row.{by_inside, row_at}
-use Rattle.image_format.specs.Image.{start, size, record_at, head_at, record_of, head_of, state_from, cell_from, row_of, marks_of, grid_at, SoundImage}
+use Rattle.image_format.specs.Image.{start, size, record_at, head_at, record_of, head_of, state_from, row_of, marks_of, grid_at, SoundImage}
 use Rattle.image_reader.specs.Damage.{some_below, zeros, good_head, headed, present, is_empty, is_sealed, bad_cell, head_damage, node_damage, slot_damage, damage}
 use Rattle.image_reader.proofs.Below.{some_at, none_from}
 use Rattle.image_reader.proofs.Records.{head_good, good_head_of, record_headed, headed_record, record_blank, shows_block, shows_nothing}

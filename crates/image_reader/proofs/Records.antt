@@ -1,13 +1,13 @@
 -- Heads and records that pass their tests are those of the format, and those of the format pass. Assumes nothing.
-use Rattle.std.proofs.Common.{◌≡◌, ℕ, zero, suc, ◌+◌, ◌<◌, ◌≤◌, Bool, true, false, cond, not, ◌&&◌, eqb, leb, List, [], ◌∷◌, length, get_or, drop, replicate, is_some, Some, None, Option, sym, refl, ap, ◌∙◌, subst, ⊎_elim, arith}
+use Rattle.std.proofs.Common.{◌≡◌, ℕ, zero, suc, ◌+◌, ◌≤◌, true, eqb, leb, List, [], ◌∷◌, length, get_or, drop, replicate, Some, None, sym, refl, ap, ◌∙◌, arith}
 use Rattle.std.proofs.lemmas.List.{ext_get_or, get_or-replicate}
-use Rattle.std.proofs.lemmas.Bool.{and_parts, and_from, eqb-true, eq-eqb, ne_eqb, leb-true, cases_lt, cond-true, cond-false, false≢true}
+use Rattle.std.proofs.lemmas.Bool.{and_parts, and_from, eqb-true, eq-eqb, ne_eqb, leb-true, cond-true, cond-false}
 use Rattle.block.specs.Block.{Block}
 use Rattle.store.specs.declared.kinds.State.{State}
 use Rattle.store.specs.declared.kinds.State.TheVariants.{Empty, Open, Sealed}
 use Rattle.image_format.specs.Image.{head_of, state_from, cell_from}
 use Rattle.image_reader.specs.Damage.{all_below, zeros, good_head, headed}
-use Rattle.image_reader.proofs.Below.{all_at, all_from}
+use Rattle.image_reader.proofs.Below.{all_at}
 
 -- a state's number and seven zeros
 head_of_from : (b : ℕ) → b ≤ 2 → head_of (state_from b) ≡ b ∷ replicate 7 0

@@ -1,5 +1,5 @@
 -- A worked image: two nodes, one place, two slots.
-use Rattle.std.specs.Prelude.{◌≡◌, ℕ, List, [], ◌∷◌, ◌++◌, replicate, Some}
+use Rattle.std.specs.Prelude.{◌≡◌, ℕ, List, ◌∷◌, ◌++◌, replicate, Some}
 use Rattle.refusal.specs.declared.kind.Refusal.TheVariants.{Sizes}
 use Rattle.store.specs.declared.kinds.Shape.{Shape}
 use Rattle.store.specs.Meaning.{Meaning, sized, bare, vacant}

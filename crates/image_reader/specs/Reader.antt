@@ -5,7 +5,7 @@ use Rattle.refusal.specs.declared.kind.Refusal.{Refusal}
 use Rattle.store.specs.declared.kinds.Shape.{Shape}
 use Rattle.store.specs.Meaning.{Meaning}
 use Rattle.store.specs.Calls.{beyond_shape, cell_refusal, cells_of}
-use Rattle.grid.specs.Grid.{Grid, means}
+use Rattle.grid.specs.Grid.{Grid}
 use Rattle.grid.specs.Index.{index}
 use Rattle.image_format.specs.Image.{start, grid_at, SoundImage}
 use Rattle.image_reader.specs.declared.reader.ImageReader.{ImageReader}

@@ -1,4 +1,6 @@
 // A stranger's image, checked and then read.
+#![tactic(auto)]
+
 ghost use Rattle.std.specs.Prelude.{◌≡◌, ℕ, ◌+◌, ◌*◌, ◌<◌, ◌≤◌, true, false, length, drop, is_some, IfSome, IfOk, None, Ok, MatchOption, OnOk, slice_index};
 ghost use Rattle.grid.specs.Index.{index};
 ghost use Rattle.refusal.specs.Answer.{outcome};

@@ -1,5 +1,5 @@
 -- The check of a stripe whose data were read. Assumes nothing.
-use Rattle.std.proofs.Common.{◌≡◌, ℕ, ◌+◌, ◌-◌, ◌*◌, ◌<◌, ◌≤◌, true, false, cond, eqb, ltb, leb, List, length, take, drop, Some, None, Option, Result, sym, refl, ap, ◌∙◌, ap₂, ⊎_elim, arith, length-drop, length-take}
+use Rattle.std.proofs.Common.{◌≡◌, ℕ, ◌+◌, ◌-◌, ◌*◌, ◌<◌, ◌≤◌, true, false, eqb, ltb, leb, List, length, take, drop, Some, None, Result, sym, ap, ◌∙◌, ap₂, ⊎_elim, arith, length-drop, length-take}
 use mathlib.Core.Path.{fun_ext}
 use Rattle.std.proofs.lemmas.Bool.{lt-leb, lt-ltb, le-ltb, eq-eqb, cond-true, cond-false, cases_lt}
 use Rattle.refusal.specs.declared.kind.Refusal.{Refusal}
@@ -12,7 +12,7 @@ use Rattle.stripe_map.specs.declared.layout.Layout.{Layout}
 use Rattle.stripe_map.specs.declared.layout.Stripe.{Stripe}
 use Rattle.stripe_map.specs.Map.{node_of, place_of, stripe_of, block_of, Among}
 use Rattle.stripe_map.proofs.Back.{stripe_among, block_below, block_least, node_within, place_within}
-use Rattle.level.specs.Checks.{start_of, position_of, Collected, CheckPlace, data_of, check_at}
+use Rattle.level.specs.Checks.{start_of, Collected, CheckPlace, data_of, check_at}
 use Rattle.level.proofs.Collecting.{start_within, position_on}
 use Rattle.level.proofs.Words.{fitted}
 

@@ -1,5 +1,5 @@
 -- Clearing slot after slot, and the level that is laid then. Assumes nothing.
-use Rattle.std.proofs.Common.{◌≡◌, ℕ, ◌+◌, ◌<◌, ◌≤◌, Bool, true, false, cond, eqb, ltb, Result, sym, refl, ap, ◌∙◌, subst, ap₂, ⊎_elim, arith}
+use Rattle.std.proofs.Common.{◌≡◌, ℕ, ◌+◌, ◌<◌, ◌≤◌, cond, eqb, ltb, Result, sym, ap, ◌∙◌, subst, ⊎_elim, arith}
 use Rattle.std.proofs.lemmas.Bool.{lt-leb, lt-ltb, le-ltb, eq-eqb, ne_eqb, cases_lt, cases_eq}
 use Rattle.refusal.specs.declared.kind.Refusal.{Refusal}
 use Rattle.refusal.specs.declared.kind.Refusal.TheVariants.{Slot as BadSlot}
@@ -7,7 +7,7 @@ use Rattle.refusal.proofs.Turning.{turned, refuse_later}
 use Rattle.code.specs.Word.{Coding}
 use Rattle.store.specs.Meaning.{Slot, Meaning, Lawful, vacant}
 use Rattle.store.specs.Meaning.Slot.{empty}
-use Rattle.store.specs.Calls.{with_slot, clearing, beyond_slots, ClearAnswer}
+use Rattle.store.specs.Calls.{clearing, ClearAnswer}
 use Rattle.stripe_map.specs.declared.layout.Layout.{Layout}
 use Rattle.level.specs.Level.{level, new_level, Laid, Matches}
 use Rattle.level.specs.Clearing.{cleared_to}

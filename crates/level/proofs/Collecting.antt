@@ -1,15 +1,14 @@
 -- Reading all data of a level, stripe after stripe. Assumes nothing.
-use Rattle.std.proofs.Common.{◌≡◌, ℕ, ◌+◌, ◌-◌, ◌*◌, ◌/◌, ◌%◌, ◌<◌, ◌≤◌, Bool, true, false, cond, not, List, length, take, drop, is_some, is_ok, Some, None, Option, Result, sym, refl, ap, ◌∙◌, subst, ap₂, ⊎_elim, mul_assoc, mul_comm, add-mul, arith}
+use Rattle.std.proofs.Common.{◌≡◌, ℕ, ◌+◌, ◌-◌, ◌*◌, ◌/◌, ◌%◌, ◌<◌, ◌≤◌, true, false, cond, not, List, length, take, drop, is_some, is_ok, Some, None, Option, Result, sym, ap, ◌∙◌, subst, ap₂, ⊎_elim, mul_assoc, mul_comm, add-mul, arith}
 use lib.Arith.{digits_lt, digits_div, digits_mod}
 use borrow.Rule.Slice.PartMut.{put_mid}
 use Rattle.std.proofs.lemmas.Nat.{mul-le}
 use Rattle.std.proofs.lemmas.List.Edits.{length-between}
 use Rattle.std.proofs.lemmas.Bool.{cases_eq}
-use Rattle.refusal.specs.Answer.{refuse, first}
+use Rattle.refusal.specs.Answer.{refuse}
 use Rattle.refusal.specs.declared.kind.Refusal.{Refusal}
 use Rattle.refusal.specs.declared.kind.Refusal.TheVariants.{Incomplete}
 use Rattle.refusal.proofs.First.{first_found, first_all}
-use Rattle.block.specs.Block.{Block}
 use Rattle.code.specs.Calls.{block_at}
 use Rattle.code.proofs.Parts.{block_here, block_other}
 use Rattle.store.specs.Meaning.{Cells, Meaning}
@@ -20,7 +19,7 @@ use Rattle.stripe_map.specs.declared.layout.Stripe.{Stripe}
 use Rattle.stripe_map.specs.Map.{node_of, place_of, stripe_of, block_of, Among}
 use Rattle.stripe_map.proofs.Back.{groups_fill, data_place, block_below, place_back, node_back, stripe_among, stripe_on, block_on}
 use Rattle.level.specs.Level.{Fits}
-use Rattle.level.specs.Checks.{start_of, position_of, Collected, CollectedTo}
+use Rattle.level.specs.Checks.{start_of, position_of, CollectedTo}
 use Rattle.level.proofs.Reading.{cell_told}
 
 module _ (l : Layout) where

@@ -1,13 +1,11 @@
 -- A level keeps the laws of a store. Assumes nothing.
-use Rattle.std.proofs.Common.{◌≡◌, ℕ, ◌+◌, ◌*◌, ◌<◌, ◌≤◌, Bool, true, false, cond, ◌||◌, ltb, leb, is_some, Some, None, Option, sym, refl, ap, ◌∙◌, ap₂, ⊎_elim, add-mul, arith}
+use Rattle.std.proofs.Common.{◌≡◌, ℕ, ◌+◌, ◌*◌, ◌<◌, ◌≤◌, true, ◌||◌, leb, is_some, ap, ◌∙◌, ap₂, ⊎_elim, add-mul, arith}
 use Rattle.std.proofs.lemmas.Nat.{mul-le}
 use Rattle.std.proofs.lemmas.Bool.{leb-true, le-leb, or_left, or_right, or_cases}
-use Rattle.block.specs.Block.{Block, IsBlock}
-use Rattle.block.specs.Count.{count}
 use Rattle.block.proofs.Counts.{count_same, count_le_of}
 use Rattle.code.specs.Word.{Coding, count_held, lowest}
 use Rattle.code.proofs.Lowest.{kept}
-use Rattle.store.specs.Meaning.{Nodes, Cells, Slot, Meaning, Limits, Within, Tidy, SealedLaw, LawfulSlot, Lawful}
+use Rattle.store.specs.Meaning.{Nodes, Cells, Slot, Meaning, Limits, Within, Tidy, LawfulSlot, Lawful}
 use Rattle.store.specs.Meaning.Slot.{empty, opened, sealed}
 use Rattle.stripe_map.specs.declared.layout.Layout.{Layout}
 use Rattle.stripe_map.specs.declared.layout.Stripe.{Stripe}

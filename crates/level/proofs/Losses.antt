@@ -1,5 +1,5 @@
 -- Losing a node beneath is losing it in the level. Assumes nothing.
-use Rattle.std.proofs.Common.{◌≡◌, ℕ, ◌+◌, ◌*◌, ◌<◌, ◌≤◌, Bool, true, false, cond, ◌||◌, eqb, ltb, leb, is_some, Some, None, Option, sym, refl, ap, ◌∙◌, arith}
+use Rattle.std.proofs.Common.{◌≡◌, ℕ, ◌+◌, ◌*◌, ◌<◌, ◌≤◌, Bool, true, false, cond, eqb, ltb, leb, is_some, Some, None, Option, sym, refl, ap, ◌∙◌, arith}
 use mathlib.Core.Path.{fun_ext}
 use Rattle.std.proofs.lemmas.Bool.{leb-true, le-leb, or_left}
 use Rattle.block.specs.Block.{Block, Blocks}
@@ -11,9 +11,9 @@ use Rattle.store.specs.Meaning.Slot.{empty, opened, sealed}
 use Rattle.store.specs.Calls.{with_node, lost_slot}
 use Rattle.stripe_map.specs.declared.layout.Layout.{Layout}
 use Rattle.stripe_map.specs.declared.layout.Stripe.{Stripe}
-use Rattle.stripe_map.specs.Map.{node_of, place_of, stripe_of, block_of, Among}
+use Rattle.stripe_map.specs.Map.{node_of, place_of, stripe_of, block_of}
 use Rattle.stripe_map.proofs.Back.{data_place, block_below, stripe_among}
-use Rattle.level.specs.Level.{Fits, held_of, covered_of, level_covers, inside, level_slot, StripeWord, SlotWords}
+use Rattle.level.specs.Level.{Fits, held_of, covered_of, level_covers, inside, level_slot, SlotWords}
 use Rattle.level.proofs.Ways.{some_test, lost_cell, lost_open, Facts}
 use Rattle.level.proofs.Words.{Law, inside_is, held_blocks, whole_is, below_word}
 use Rattle.level.proofs.Lawful.{below_node, held_covered}

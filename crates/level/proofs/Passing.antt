@@ -1,20 +1,19 @@
 -- A call that a level passes on is the same call of the level. Assumes nothing.
-use Rattle.std.proofs.Common.{◌≡◌, ℕ, ◌+◌, ◌*◌, ◌<◌, ◌≤◌, Bool, true, false, cond, not, ◌&&◌, ◌||◌, eqb, ltb, leb, List, length, Some, None, Ok, Err, Option, Result, sym, refl, ap, ◌∙◌, subst, ap₂, arith}
+use Rattle.std.proofs.Common.{◌≡◌, ℕ, ◌*◌, ◌<◌, Bool, true, false, cond, not, ◌&&◌, eqb, leb, List, length, Some, None, Option, Result, sym, refl, ap, ◌∙◌, subst, ap₂, arith}
 use mathlib.Core.Path.{fun_ext}
-use Rattle.std.proofs.lemmas.Bool.{and_parts, eqb-true, le-leb, lt-leb, not-false, false≢true}
+use Rattle.std.proofs.lemmas.Bool.{and_parts, eqb-true, lt-leb, not-false, false≢true}
 use Rattle.refusal.specs.Answer.{refuse, outcome, unless, Turns}
 use Rattle.refusal.specs.declared.kind.Refusal.{Refusal}
 use Rattle.refusal.specs.declared.kind.Refusal.TheVariants.{Node, Place, Slot as BadSlot, Length, SlotNotOpen, SlotNotEmpty}
 use Rattle.refusal.proofs.Turning.{refuse_not, refuse_rest}
 use Rattle.block.specs.Block.{Block}
 use Rattle.code.specs.Word.{Coding}
-use Rattle.store.specs.declared.kinds.State.{State}
-use Rattle.store.specs.Meaning.{Cells, Slot, Meaning, Lawful}
+use Rattle.store.specs.Meaning.{Slot, Meaning, Lawful}
 use Rattle.store.specs.Meaning.Slot.{empty, opened, sealed}
-use Rattle.store.specs.Calls.{state_of, is_empty, is_open, cells_of, no_cells, with_slot, with_cell, beyond_slots, not_a_block, open_refusal, put_refusal, lose_refusal, StateAnswer, LoseAnswer, OpenAnswer, ClearAnswer, PutAnswer}
+use Rattle.store.specs.Calls.{state_of, is_empty, is_open, cells_of, no_cells, with_slot, with_cell, beyond_slots, not_a_block, open_refusal, put_refusal, lose_refusal, LoseAnswer, OpenAnswer, ClearAnswer, PutAnswer}
 use Rattle.stripe_map.specs.declared.layout.Layout.{Layout}
 use Rattle.stripe_map.proofs.Back.{data_place}
-use Rattle.level.specs.Level.{inside, open_cells, level_slot, level, SlotWords, Laid, Fits}
+use Rattle.level.specs.Level.{inside, open_cells, level_slot, level, SlotWords, Laid}
 use Rattle.level.proofs.Words.{Law, is_inside}
 use Rattle.level.proofs.Losses.{lost_words, lost_level}
 

@@ -1,10 +1,10 @@
 -- A sound level keeps its promise. Assumes nothing.
-use Rattle.std.proofs.Common.{◌≡◌, ℕ, ◌+◌, ◌*◌, ◌<◌, ◌≤◌, true, ◌||◌, leb, ◌⊎◌, is_some, Some, None, Option, sym, refl, ap, ◌∙◌, subst, inl, inr, ⊎_elim, arith}
+use Rattle.std.proofs.Common.{◌≡◌, ◌+◌, ◌<◌, true, leb, is_some, Some, None, Option, sym, refl, ap, ◌∙◌, subst, inl, inr, ⊎_elim, arith}
 use Rattle.std.proofs.lemmas.Bool.{leb-true, le-leb, or_left, or_right, or_cases, false≢true}
 use Rattle.block.specs.Block.{Block}
 use Rattle.code.specs.Word.{Coding}
 use Rattle.store.specs.Meaning.{Nodes, Cells, Slot, Meaning, SealedLaw, LawfulSlot, Lawful}
-use Rattle.store.specs.Meaning.Slot.{empty, opened, sealed}
+use Rattle.store.specs.Meaning.Slot.{sealed}
 use Rattle.store.specs.Calls.{cells_of}
 use Rattle.stripe_map.specs.declared.layout.Layout.{Layout}
 use Rattle.stripe_map.specs.declared.layout.Stripe.{Stripe}

@@ -1,12 +1,12 @@
 -- Reading the blocks of a stripe, and what its word gives. Assumes nothing.
-use Rattle.std.proofs.Common.{◌≡◌, ℕ, ◌+◌, ◌*◌, ◌<◌, ◌≤◌, Bool, true, false, cond, not, eqb, ltb, leb, List, length, get_or, set, is_some, is_ok, Some, None, Ok, Err, Option, Result, unwrap_or, sym, refl, ap, ◌∙◌, subst, ap₂, ⊎_elim, arith, get_or-set_other, get_or-set_same}
+use Rattle.std.proofs.Common.{◌≡◌, ℕ, ◌+◌, ◌*◌, ◌<◌, ◌≤◌, Bool, true, false, cond, not, eqb, ltb, leb, List, length, set, is_some, is_ok, Some, None, Option, Result, unwrap_or, sym, ap, ◌∙◌, ap₂, ⊎_elim, arith, get_or-set_other, get_or-set_same}
 use mathlib.Core.Path.{fun_ext}
 use borrow.Rule.Slice.PartMut.{put_mid}
 use Rattle.std.proofs.lemmas.List.{get_or_past}
 use Rattle.std.proofs.lemmas.Bool.{lt-leb, lt-ltb, le-ltb, le-leb, cond-false, cases_lt}
-use Rattle.refusal.specs.Answer.{refuse, outcome, unless, Turns}
+use Rattle.refusal.specs.Answer.{refuse, outcome, unless}
 use Rattle.refusal.specs.declared.kind.Refusal.{Refusal}
-use Rattle.refusal.specs.declared.kind.Refusal.TheVariants.{Missing, TooFewBlocks, BlockNumber, SlotEmpty}
+use Rattle.refusal.specs.declared.kind.Refusal.TheVariants.{Missing, TooFewBlocks, BlockNumber}
 use Rattle.block.specs.Block.{Block, Held}
 use Rattle.block.specs.Count.{count}
 use Rattle.code.specs.Word.{Coding, count_held, lowest}
@@ -16,7 +16,7 @@ use Rattle.code.proofs.Blocks.{counts_marked}
 use Rattle.code.proofs.Parts.{block_here, block_other}
 use Rattle.store.specs.Meaning.{Slot, Meaning}
 use Rattle.store.specs.Meaning.Slot.{empty, opened, sealed}
-use Rattle.store.specs.Calls.{cells_of, cell_refusal, get_refusal, GetAnswer}
+use Rattle.store.specs.Calls.{cells_of, cell_refusal, GetAnswer}
 use Rattle.store.proofs.Accepted.{within_shape}
 use Rattle.stripe_map.specs.declared.layout.Layout.{Layout}
 use Rattle.stripe_map.specs.declared.layout.Stripe.{Stripe}

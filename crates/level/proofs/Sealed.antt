@@ -1,21 +1,21 @@
 -- Sealing a slot whose checks are written. Assumes nothing.
-use Rattle.std.proofs.Common.{◌≡◌, ℕ, ◌+◌, ◌*◌, ◌<◌, ◌≤◌, Bool, true, false, cond, not, ◌&&◌, eqb, ltb, leb, List, is_some, Some, None, Ok, Err, Option, Result, sym, refl, ap, ◌∙◌, subst, ap₂, ⊎_elim, arith}
+use Rattle.std.proofs.Common.{◌≡◌, ℕ, ◌+◌, ◌*◌, ◌<◌, ◌≤◌, Bool, true, false, cond, not, ltb, leb, List, is_some, Some, None, Ok, Err, Option, Result, sym, refl, ap, ◌∙◌, subst, ap₂, ⊎_elim, arith}
 use mathlib.Core.Path.{fun_ext}
 use Rattle.std.proofs.lemmas.Bool.{leb-false, lt-ltb, le-ltb, cond-true, cond-false, cases_lt, cases_Bool, false≢true}
 use Rattle.std.specs.Option.{option_or}
-use Rattle.refusal.specs.Answer.{refuse, outcome, unless, first}
+use Rattle.refusal.specs.Answer.{refuse, outcome}
 use Rattle.refusal.specs.declared.kind.Refusal.{Refusal}
 use Rattle.refusal.specs.declared.kind.Refusal.TheVariants.{Slot as BadSlot, Incomplete}
 use Rattle.refusal.proofs.First.{first_all, first_same}
 use Rattle.refusal.proofs.Turning.{turned, turns_refused, turns_done}
-use Rattle.block.specs.Block.{Block, Blocks, Held, IsBlock}
+use Rattle.block.specs.Block.{Block, IsBlock}
 use Rattle.block.proofs.Counts.{count_same, count_below}
 use Rattle.code.specs.Word.{Coding, count_held, AllBlocks}
 use Rattle.code.proofs.Lowest.{kept}
 use Rattle.store.specs.declared.kinds.Shape.{Shape}
 use Rattle.store.specs.declared.kinds.State.{State}
-use Rattle.store.specs.declared.kinds.State.TheVariants.{Empty, Open, Sealed}
-use Rattle.store.specs.Meaning.{Nodes, Cells, Slot, Meaning, Within, Tidy, LawfulSlot, Lawful}
+use Rattle.store.specs.declared.kinds.State.TheVariants.{Open}
+use Rattle.store.specs.Meaning.{Cells, Slot, Meaning, Within, LawfulSlot, Lawful}
 use Rattle.store.specs.Meaning.Slot.{empty, opened, sealed}
 use Rattle.store.specs.Calls.{absent_at, incomplete, is_open, state_of, cells_of, with_slot, seal_refusal, sealing, no_nodes, StateAnswer, SealAnswer}
 use Rattle.store.proofs.Accepted.{seal_refused}
@@ -23,12 +23,11 @@ use Rattle.stripe_map.specs.declared.layout.Layout.{Layout}
 use Rattle.stripe_map.specs.declared.layout.Stripe.{Stripe}
 use Rattle.stripe_map.specs.Map.{node_of, place_of, stripe_of, block_of, Among}
 use Rattle.stripe_map.proofs.Back.{block_on, stripe_on, node_within, place_within, check_above}
-use Rattle.level.specs.Level.{Fits, inside, held_of, restored, level_shape, open_cells, sealed_cells, level_slot, level, StripeWord, Laid}
-use Rattle.level.specs.Checks.{Unsealed, Ready, CheckPlace, Complete, data_of, check_at, Written, NodesTo}
+use Rattle.level.specs.Level.{Fits, inside, held_of, restored, level_shape, sealed_cells, level_slot, level, StripeWord, Laid}
+use Rattle.level.specs.Checks.{Unsealed, Ready, Complete, data_of, check_at, Written, NodesTo}
 use Rattle.level.proofs.Ways.{some_same, none_is}
 use Rattle.level.proofs.Words.{Law, is_inside, inside_is}
 use Rattle.level.proofs.Passing.{level_with, laid_with, same_open}
-use Rattle.level.proofs.Collecting.{none_absent}
 use Rattle.level.proofs.Sealing.{twice, data_same, open_still, on_nodes}
 
 -- every cell is there

@@ -1,10 +1,10 @@
 -- Writing the checks of a slot, one after the other. Assumes nothing.
-use Rattle.std.proofs.Common.{◌≡◌, ℕ, ◌+◌, ◌*◌, ◌<◌, ◌≤◌, Bool, true, false, cond, ◌&&◌, eqb, ltb, ◌⊎◌, List, Some, None, Option, sym, refl, ap, ◌∙◌, subst, ap₂, inl, inr, ⊎_elim, arith}
+use Rattle.std.proofs.Common.{◌≡◌, ℕ, ◌+◌, ◌*◌, ◌<◌, Bool, true, false, cond, ◌&&◌, eqb, ltb, ◌⊎◌, List, Some, None, sym, refl, ap, ◌∙◌, subst, ap₂, inl, inr, ⊎_elim, arith}
 use mathlib.Core.Path.{fun_ext}
 use Rattle.std.proofs.lemmas.Bool.{ltb-true, eq-eqb, eqb-true, cond-true, cond-false, cases_lt, cases_Bool, and_parts, and_from, false≢true}
 use Rattle.block.specs.Block.{Block, Blocks, Held}
 use Rattle.code.specs.Word.{Coding}
-use Rattle.store.specs.Meaning.{Cells, Slot, Meaning}
+use Rattle.store.specs.Meaning.{Slot, Meaning}
 use Rattle.store.specs.Meaning.Slot.{empty, opened, sealed}
 use Rattle.store.specs.Calls.{is_open, cells_of, with_slot, with_cell}
 use Rattle.stripe_map.specs.declared.layout.Layout.{Layout}
@@ -12,7 +12,7 @@ use Rattle.stripe_map.specs.declared.layout.Stripe.{Stripe}
 use Rattle.stripe_map.specs.Map.{node_of, place_of, stripe_of, block_of, Among}
 use Rattle.stripe_map.proofs.Back.{stripe_among, place_within}
 use Rattle.level.specs.Level.{Laid}
-use Rattle.level.specs.Checks.{Unsealed, Ready, CheckPlace, data_of, check_at, checked_one, Written, NodeTo, NodesTo}
+use Rattle.level.specs.Checks.{Ready, CheckPlace, data_of, check_at, checked_one, Written, NodeTo, NodesTo}
 use Rattle.level.proofs.Passing.{laid_with}
 
 abbrev OnChecks : Layout → (ℕ → ℕ → Type 0) → Type 0

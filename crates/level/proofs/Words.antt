@@ -1,7 +1,7 @@
 -- The word of a stripe. Assumes nothing.
-use Rattle.std.proofs.Common.{◌≡◌, ℕ, ◌+◌, ◌*◌, ◌<◌, ◌≤◌, true, cond, ltb, leb, Some, None, Option, sym, refl, ap, ◌∙◌, subst, ap₂, ⊎_elim}
+use Rattle.std.proofs.Common.{◌≡◌, ℕ, ◌+◌, ◌*◌, ◌<◌, ◌≤◌, true, ltb, leb, Some, None, sym, ◌∙◌, subst, ap₂, ⊎_elim}
 use Rattle.std.proofs.lemmas.Bool.{ltb-true, leb-true, and_parts, and_from, lt-ltb, cond-true}
-use Rattle.block.specs.Block.{Block, Blocks, Held, IsBlock}
+use Rattle.block.specs.Block.{Block, Blocks, Held}
 use Rattle.code.specs.Word.{Coding, Completes, AnyKBlocksBelongToExactlyOneWord, AllBlocks, Has, count_held, lowest}
 use Rattle.code.proofs.Law.{Agree}
 use Rattle.code.proofs.Agreement.{agree}

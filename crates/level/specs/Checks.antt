@@ -1,9 +1,8 @@
 -- Sealing a level: all data are read, then every check is written.
-use Rattle.std.specs.Prelude.{◌≡◌, ℕ, ◌+◌, ◌*◌, ◌<◌, ◌≤◌, true, cond, List, is_some, Some, None, Ok, Err, Option, Result, nat_lt}
+use Rattle.std.specs.Prelude.{◌≡◌, ℕ, ◌+◌, ◌*◌, ◌<◌, ◌≤◌, true, cond, List, is_some, Some, None, Ok, Err, Result, nat_lt}
 use Rattle.refusal.specs.declared.kind.Refusal.{Refusal}
 use Rattle.block.specs.Block.{Block, Blocks, Held}
 use Rattle.code.specs.Calls.{block_at}
-use Rattle.code.specs.Word.{Coding}
 use Rattle.store.specs.Meaning.{Cells, Meaning}
 use Rattle.store.specs.Meaning.Slot.{opened}
 use Rattle.store.specs.Calls.{is_open, cells_of, with_slot, with_cell, absent_at, incomplete}

@@ -1,5 +1,5 @@
 -- Worked values of the cover rule of piles.
-use Rattle.std.specs.Prelude.{◌≡◌, List, [], ◌∷◌, refl}
+use Rattle.std.specs.Prelude.{◌≡◌, [], ◌∷◌, refl}
 use Rattle.store.specs.Meaning.{Rule, bare, sized}
 use Rattle.stripe_map.specs.declared.layout.Layout.{Layout}
 use Rattle.level.specs.Level.{level_covers}

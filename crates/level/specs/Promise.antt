@@ -1,5 +1,5 @@
 -- What a level promises.
-use Rattle.std.specs.Prelude.{◌≡◌, ℕ, ◌+◌, ◌<◌, ◌≤◌, true, ◌⊎◌, Some, Option}
+use Rattle.std.specs.Prelude.{◌≡◌, ℕ, ◌+◌, ◌<◌, ◌≤◌, true, ◌⊎◌, Some}
 use Rattle.block.specs.Block.{Blocks}
 use Rattle.store.specs.Meaning.{Nodes, Cells, Meaning, Within}
 use Rattle.store.specs.Meaning.Slot.{sealed}

@@ -1,5 +1,5 @@
 -- What a level has read of a stripe, and what it answers then.
-use Rattle.std.specs.Prelude.{◌≡◌, ℕ, ◌+◌, ◌<◌, Bool, true, false, not, List, is_some, None, Ok, Err, Option, Result, ◌==◌}
+use Rattle.std.specs.Prelude.{◌≡◌, ℕ, ◌<◌, Bool, true, false, not, List, is_some, None, Ok, Err, Option, Result, ◌==◌}
 use Rattle.std.specs.Option.{unwrap_or}
 use Rattle.refusal.specs.Number.{number_of}
 use Rattle.refusal.specs.Answer.{refuse, Turns}

@@ -1,4 +1,6 @@
 // Refusals: what a call answers when it does not do what was asked, and leaves everything as it was.
+#![tactic(auto)]
+
 ghost use Rattle.std.specs.Prelude.{◌≡◌};
 ghost use Rattle.refusal.specs.Number.{number_of};
 

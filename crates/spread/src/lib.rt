@@ -1,4 +1,6 @@
 // A level: a code laid over a store, which is again a store.
+#![tactic(auto)]
+
 ghost use Rattle.std.specs.Prelude.{◌≡◌, ℕ, ◌+◌, ◌*◌, ◌<◌, ◌≤◌, None, OnErr, nat_le};
 ghost use Rattle.refusal.specs.Answer.{refuse};
 ghost use Rattle.refusal.specs.declared.kind.Refusal.TheVariants.{Node, Place};

@@ -1,5 +1,5 @@
 -- The limits of the sizes, as facts and as a test.
-use Rattle.std.proofs.Common.{◌≡◌, true, ◌&&◌, leb}
+use Rattle.std.proofs.Common.{◌≡◌, true, leb}
 use Rattle.std.proofs.lemmas.Bool.{leb-true, le-leb, and_parts}
 use Rattle.store.specs.declared.kinds.Shape.{Shape}
 use Rattle.store.specs.Meaning.{Limits, within_limits}

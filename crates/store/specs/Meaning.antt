@@ -1,5 +1,5 @@
 -- What a store means: its shape, its cover rule and its slots.
-use Rattle.std.specs.Prelude.{◌≡◌, ℕ, ◌<◌, ◌≤◌, Bool, true, false, not, ◌&&◌, is_some, Some, None, Option, nat_le}
+use Rattle.std.specs.Prelude.{◌≡◌, ℕ, ◌<◌, ◌≤◌, Bool, true, false, not, ◌&&◌, is_some, Some, Option, nat_le}
 use Rattle.block.specs.Block.{Block, IsBlock}
 use Rattle.store.specs.declared.kinds.Shape.{Shape}
 

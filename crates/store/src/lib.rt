@@ -1,4 +1,6 @@
 // Stores by what they mean: a reading interface, a store above it, and what can be done with either.
+#![tactic(auto)]
+
 ghost use Rattle.std.specs.Prelude.{◌≡◌, ℕ, ◌+◌, ◌*◌, ◌<◌, ◌≤◌, length, OnErr};
 ghost use Rattle.store.specs.Meaning.{Meaning, Lawful, within_limits};
 ghost use Rattle.store.specs.Calls.{StateAnswer, GetAnswer, OpenAnswer, PutAnswer, SealAnswer, LoseAnswer, ClearAnswer, state_number};

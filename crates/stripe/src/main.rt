@@ -6,6 +6,8 @@
 //     stripe level N G L CODE..     one of these on a level of N nodes, in groups of G, with L lanes; LOST.. are nodes
 //     stripe vectors FILE           compares the Cauchy code with known answers
 //     stripe -                      reads such commands from standard input, one to a line
+#![tactic(auto)]
+
 mod command;
 mod hex;
 mod job;

@@ -1,5 +1,5 @@
 -- The calls of the map are not refused within the layout, and what they answer then. Assumes nothing.
-use Rattle.std.proofs.Common.{◌≡◌, ℕ, ◌+◌, ◌*◌, ◌/◌, ◌%◌, ◌<◌, ◌≤◌, true, false, not, ◌&&◌, ltb, leb, None, Ok, sym, ◌∙◌, ⊎_elim, mod-eq_of_lt, arith}
+use Rattle.std.proofs.Common.{◌≡◌, ℕ, ◌+◌, ◌*◌, ◌/◌, ◌%◌, ◌<◌, ◌≤◌, leb, None, Ok, sym, ⊎_elim, mod-eq_of_lt, arith}
 use Rattle.std.proofs.lemmas.Bool.{lt-ltb, lt-leb, leb-false, cases_lt}
 use Rattle.refusal.specs.Answer.{outcome}
 use Rattle.refusal.specs.declared.kind.Refusal.TheVariants.{Node, Place}
@@ -8,7 +8,7 @@ use Rattle.stripe_map.specs.declared.layout.Layout.{Layout}
 use Rattle.stripe_map.specs.declared.layout.Stripe.{Stripe}
 use Rattle.stripe_map.specs.declared.layout.Member.{Member}
 use Rattle.stripe_map.specs.declared.layout.Address.{Address}
-use Rattle.stripe_map.specs.Map.{Among, among, locate_refusal, trace_refusal, address_of, member_of}
+use Rattle.stripe_map.specs.Map.{Among, locate_refusal, trace_refusal, address_of, member_of}
 
 pub locate_found : (l : Layout) (s : Stripe) (c : ℕ) → Among l s → c < l.k + l.m → locate_refusal l s c ≡ None
 locate_found l s c a h =

@@ -1,4 +1,6 @@
 // How the words of a code lie on the nodes of a store.
+#![tactic(auto)]
+
 ghost use Rattle.std.specs.Prelude.{◌≡◌, ℕ, ◌+◌, ◌*◌, ◌≤◌};
 ghost use Rattle.refusal.specs.Answer.{outcome};
 ghost use Rattle.code.specs.Making.{Makes};

@@ -1,4 +1,6 @@
 // A file cut into stripes of k data blocks, each protected by a code, hurt, and brought back.
+#![tactic(auto)]
+
 ghost use Rattle.std.specs.Prelude.{◌≡◌, ℕ, ◌+◌, ◌*◌, ◌<◌, ◌≤◌, true, false, ◌++◌, length, is_ok, IfOk, if◌then◌else◌, None, MatchResult, ◌≢◌, slice_index};
 ghost use Rattle.block.specs.Block.{Blocks};
 ghost use Rattle.block.specs.Count.{count};

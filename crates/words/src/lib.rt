@@ -1,4 +1,6 @@
 // Numbers as people write them.
+#![tactic(auto)]
+
 ghost use Rattle.std.specs.Prelude.{◌≡◌, ℕ, ◌^◌, ◌<◌, decimal, MatchOption, ◌≢◌};
 
 pub mod counted;

@@ -1,5 +1,5 @@
 -- The calls on the worked image: none is refused. Assumes nothing.
-use Rattle.std.proofs.Common.{◌≡◌, ℕ, List, replicate, None, Ok, Err, Option, Result, refl, ap, ◌∙◌, arith}
+use Rattle.std.proofs.Common.{◌≡◌, ℕ, replicate, None, Ok, Err, Option, Result, refl, ap, ◌∙◌, arith}
 use Rattle.refusal.specs.declared.kind.Refusal.{Refusal}
 use Rattle.refusal.specs.Answer.{outcome, Turns}
 use Rattle.refusal.proofs.Turning.{turned}

@@ -1,4 +1,6 @@
 // The worked image, laid by the calls that make it, with the worked values of all layers.
+#![tactic(auto)]
+
 ghost use Rattle.std.specs.Prelude.{◌≡◌, length, Ok, OnErr, OnOk};
 ghost use Rattle.refusal.specs.Answer.{outcome};
 ghost use Rattle.store.specs.Meaning.{vacant, bare};

@@ -1,4 +1,4 @@
-use Rattle.std.proofs.Common.{◌≡◌, ◌&&◌, ltb, ap, ◌∙◌, arith}
+use Rattle.std.proofs.Common.{◌&&◌, ltb, ap, ◌∙◌, arith}
 use Rattle.block.specs.Count.{count}
 use Rattle.code.specs.Calls.{marks_held}
 use Rattle.bytewise.proofs.Written.{rebuild_written}

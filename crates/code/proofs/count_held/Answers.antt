@@ -1,4 +1,4 @@
-use Rattle.std.proofs.Common.{◌≡◌, ◌+◌, sym, ap, ◌∙◌, arith}
+use Rattle.std.proofs.Common.{◌+◌, sym, ap, ◌∙◌, arith}
 use Rattle.block.proofs.Counts.{count_more, count_skip, count_le}
 use Rattle.code.specs.Calls.{marks_held}
 use Rattle.code.proofs.Marks.{mark_held, mark_missing}

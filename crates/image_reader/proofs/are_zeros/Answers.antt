@@ -1,4 +1,4 @@
-use Rattle.std.proofs.Common.{◌≡◌, ℕ, eqb, length, get_or, sym}
+use Rattle.std.proofs.Common.{eqb, length, get_or, sym}
 use Rattle.std.proofs.lemmas.Bool.{eq-eqb, ne_eqb}
 use Rattle.image_reader.proofs.Below.{all_more, all_fails}
 use Rattle.image_reader.proofs.are_zeros.Goals as goal

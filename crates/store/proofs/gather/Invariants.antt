@@ -1,4 +1,4 @@
-use Rattle.std.proofs.Common.{ℕ, length}
+use Rattle.std.proofs.Common.{length}
 use Rattle.store.specs.Rank.{Reads, Gathered}
 use Rattle.store.proofs.gather.Given as goal
 

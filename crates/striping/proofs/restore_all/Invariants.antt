@@ -1,6 +1,5 @@
-use Rattle.std.proofs.Common.{◌≡◌, ℕ, ◌<◌, length}
+use Rattle.std.proofs.Common.{length}
 use Rattle.block.specs.Block.{Blocks}
-use Rattle.code.specs.Calls.{block_at}
 use Rattle.striping.specs.Stripe.{Stores, Leaves}
 use Rattle.striping.proofs.restore_all.Given as goal
 

@@ -1,4 +1,4 @@
-use Rattle.std.proofs.Common.{◌≡◌, length, get_or, arith, rules}
+use Rattle.std.proofs.Common.{◌≡◌, length, get_or, rules}
 use Rattle.words.proofs.Decimals.{reads_decimal, no_plus, no_zero, some_first}
 use Rattle.words.proofs.read_number.Goals as goal
 use Rattle.words.proofs.read_number.Goals.{else-digits-gt0-via-then-digits-gt0+else-digits-eq43, else-digits-gt0-via-else-digits-gt0, else-digits-gt1-via-then-digits-gt1+else-digits-eq48, else-digits-gt1-via-else-digits-gt1}

@@ -1,4 +1,4 @@
-use Rattle.std.proofs.Common.{◌≡◌, ℕ, ◌<◌, cond, eqb, List, length, set, Some, sym, refl, ap, ◌∙◌, arith, length-set}
+use Rattle.std.proofs.Common.{◌≡◌, ℕ, ◌<◌, cond, eqb, List, length, set, Some, refl, ◌∙◌, arith, length-set}
 use Rattle.block.specs.Block.{Block, IsBlock}
 use Rattle.grid.specs.Index.{index}
 use Rattle.grid.proofs.Index.{index_below}

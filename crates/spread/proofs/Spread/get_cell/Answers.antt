@@ -1,4 +1,4 @@
-use Rattle.std.proofs.Common.{◌≡◌, ◌*◌, ◌<◌, true, ◌&&◌, ltb, length, sym, ap, ◌∙◌, subst, arith}
+use Rattle.std.proofs.Common.{◌≡◌, true, ◌&&◌, ltb, length, sym, ap, ◌∙◌, subst}
 use Rattle.std.proofs.lemmas.Bool.{and_parts, and_left, and_right}
 use Rattle.level.specs.Stripes.{is_missing, is_sealed, RestoreAnswer, from_stripe}
 use Rattle.level.proofs.Getting.{get_passes, get_long, get_slot, get_untouched, get_restores}

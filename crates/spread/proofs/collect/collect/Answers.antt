@@ -1,4 +1,4 @@
-use Rattle.std.proofs.Common.{◌≡◌, ◌<◌, ◌≤◌, is_some, sym, refl, ap, ◌∙◌, subst, arith}
+use Rattle.std.proofs.Common.{is_some, sym, refl, ap, ◌∙◌, subst, arith}
 use Rattle.refusal.proofs.First.{first_more, first_found}
 use Rattle.store.specs.Calls.{cells_of, absent_at}
 use Rattle.level.specs.Level.{level_shape}

@@ -1,4 +1,4 @@
-use Rattle.std.proofs.Common.{◌≡◌, ◌+◌, ◌<◌, cond, is_ok, Some, None, sym, ap, ◌∙◌, arith}
+use Rattle.std.proofs.Common.{◌+◌, ◌<◌, cond, is_ok, Some, None, sym, ap, ◌∙◌, arith}
 use Rattle.store.specs.Calls.{cells_of}
 use Rattle.stripe_map.proofs.Back.{node_within, place_within}
 use Rattle.stripe_map.proofs.Found.{located}

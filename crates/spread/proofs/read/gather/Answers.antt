@@ -1,10 +1,9 @@
-use Rattle.std.proofs.Common.{◌≡◌, ◌+◌, ◌-◌, ◌*◌, ◌<◌, ◌≤◌, length, take, drop, set, sym, ap, ◌∙◌, subst, arith, below_none, below_more}
+use Rattle.std.proofs.Common.{◌≡◌, ◌+◌, ◌-◌, ◌*◌, ◌≤◌, length, take, drop, set, ◌∙◌, arith, below_none, below_more}
 use borrow.Rule.Slice.PartMut.{put_mid}
 use Rattle.std.proofs.lemmas.List.Edits.{length-between}
 use Rattle.code.specs.Calls.{marked}
 use Rattle.store.specs.Calls.{cells_of}
 use Rattle.level.specs.Level.{held_of}
-use Rattle.level.specs.Stripes.{Gathered}
 use Rattle.level.proofs.Reading.{marked_here, marked_other}
 use Rattle.spread.proofs.read.gather.Goals as goal
 

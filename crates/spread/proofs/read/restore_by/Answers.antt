@@ -1,4 +1,4 @@
-use Rattle.std.proofs.Common.{◌≡◌, ◌+◌, ◌*◌, ◌<◌, ◌≤◌, length, sym, ap, ◌∙◌, subst, ap₂, arith}
+use Rattle.std.proofs.Common.{◌+◌, length, sym, ◌∙◌, subst, arith}
 use Rattle.code.specs.Calls.{Rebuilds}
 use Rattle.stripe_map.specs.Map.{Among, stripe_of, block_of}
 use Rattle.stripe_map.proofs.Back.{data_place, stripe_among, block_below}

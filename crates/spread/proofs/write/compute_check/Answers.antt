@@ -1,4 +1,4 @@
-use Rattle.std.proofs.Common.{◌≡◌, ◌+◌, ◌-◌, ◌*◌, ◌<◌, ◌≤◌, length, take, drop, sym, ap, ◌∙◌, subst, ap₂, arith}
+use Rattle.std.proofs.Common.{◌≡◌, ◌+◌, ◌-◌, ◌*◌, ◌≤◌, take, drop, sym, ap, ◌∙◌, subst, ap₂, arith}
 use Rattle.code.specs.Calls.{Checks}
 use Rattle.stripe_map.specs.Map.{Among, stripe_of, block_of}
 use Rattle.stripe_map.proofs.Back.{stripe_among, block_least}

@@ -1,4 +1,4 @@
-use Rattle.std.proofs.Common.{◌<◌, ◌≤◌, arith}
+use Rattle.std.proofs.Common.{arith}
 use Rattle.level.specs.Checks.{NodesTo}
 use Rattle.level.proofs.Sealing.{nodes_none, nodes_more, on_nodes, laid_still, ready_still, written_same}
 use Rattle.spread.proofs.write.write_checks.Goals as goal

@@ -1,4 +1,4 @@
-use Rattle.std.proofs.Common.{◌≡◌, ◌+◌, ◌*◌, ◌<◌, ◌≤◌, subst, arith}
+use Rattle.std.proofs.Common.{◌+◌, ◌*◌, ◌<◌, ◌≤◌, subst, arith}
 use Rattle.level.specs.Checks.{CheckPlace, NodeTo}
 use Rattle.level.proofs.Sealing.{node_none, node_more, on_node, laid_still, ready_still, written_same}
 use Rattle.spread.proofs.write.write_node.Goals as goal

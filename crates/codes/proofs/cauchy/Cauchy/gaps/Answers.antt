@@ -1,4 +1,4 @@
-use Rattle.std.proofs.Common.{◌≡◌, ℕ, Bool, false, not, ◌&&◌, eqb, get_or, sym, refl, ap, ◌∙◌, ap₂, ⊎_elim}
+use Rattle.std.proofs.Common.{ℕ, Bool, false, not, ◌&&◌, eqb, get_or, sym, refl, ap, ◌∙◌, ap₂, ⊎_elim}
 use lib.Bits.{bit_xor}
 use Rattle.field.specs.Field.{mul}
 use Rattle.field.specs.Sums.{multiplied}

@@ -1,4 +1,4 @@
-use Rattle.std.proofs.Common.{◌≡◌, true, false, not, ◌&&◌, eqb, ap, ◌∙◌, arith}
+use Rattle.std.proofs.Common.{true, false, not, ◌&&◌, eqb, ap, ◌∙◌, arith}
 use Rattle.std.proofs.lemmas.List.{get_or-replicate}
 use Rattle.interpolation.proofs.Products.{multiplied_same}
 use Rattle.codes.proofs.cauchy.Cauchy.scale.Goals as goal

@@ -1,4 +1,4 @@
-use Rattle.std.proofs.Common.{◌≡◌, unwrap_or, ap, ◌∙◌}
+use Rattle.std.proofs.Common.{unwrap_or, ap, ◌∙◌}
 use Rattle.field.proofs.Inverses.{inverse_or_zero}
 use Rattle.codes.proofs.cauchy_code.CauchyBytewise.coefficient.Goals as goal
 

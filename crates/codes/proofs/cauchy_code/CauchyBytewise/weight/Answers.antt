@@ -1,4 +1,4 @@
-use Rattle.std.proofs.Common.{◌≡◌, unwrap_or, ap, ◌∙◌, ap₂}
+use Rattle.std.proofs.Common.{unwrap_or, ap, ◌∙◌, ap₂}
 use Rattle.field.specs.Field.{mul, reciprocal}
 use Rattle.field.proofs.Inverses.{inverse_or_zero}
 use Rattle.codes.proofs.cauchy_code.CauchyBytewise.weight.Goals as goal

@@ -1,4 +1,4 @@
-use Rattle.std.proofs.Common.{◌≡◌, sym, ◌∙◌}
+use Rattle.std.proofs.Common.{sym, ◌∙◌}
 use Rattle.image_reader.specs.Damage.{present}
 use Rattle.image_reader.proofs.Below.{some_at, none_more}
 use Rattle.image_reader.proofs.laid.Laid.any_present.Goals as goal

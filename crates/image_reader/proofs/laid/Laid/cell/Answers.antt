@@ -1,4 +1,4 @@
-use Rattle.std.proofs.Common.{◌≡◌, ℕ, ◌+◌, ◌-◌, length, take, drop, ap, ◌∙◌, ap₂, arith, length-drop, length-take}
+use Rattle.std.proofs.Common.{◌≡◌, ◌+◌, ◌-◌, take, drop, ap₂, arith, length-drop, length-take}
 use Rattle.image_reader.proofs.laid.Laid.cell.Goals as goal
 
 pub returns : goal.returns

@@ -1,4 +1,4 @@
-use Rattle.std.proofs.Common.{◌≡◌, is_some, sym, ap, ◌∙◌}
+use Rattle.std.proofs.Common.{is_some, sym, ap, ◌∙◌}
 use Rattle.refusal.proofs.First.{first_more, first_found, none_from}
 use Rattle.image_reader.specs.Damage.{node_damage}
 use Rattle.image_reader.proofs.laid.Laid.slot_damage.Goals as goal

@@ -1,4 +1,4 @@
-use Rattle.std.proofs.Common.{◌≡◌, sym, refl, ap, ◌∙◌}
+use Rattle.std.proofs.Common.{sym, refl, ap, ◌∙◌}
 use Rattle.refusal.specs.Answer.{outcome}
 use Rattle.image_reader.proofs.Checked.{only_damage, passed, not_damaged}
 use Rattle.image_reader.proofs.reader.ImageReader.check.Goals as goal

@@ -1,4 +1,4 @@
-use Rattle.std.proofs.Common.{◌≡◌, sym, ap, arith, rules}
+use Rattle.std.proofs.Common.{sym, ap, arith, rules}
 use Rattle.refusal.specs.Answer.{outcome}
 use Rattle.stripe_map.specs.Map.{Among, node_of, place_of, address_of}
 use Rattle.stripe_map.proofs.Found.{locate_found}
