@@ -1,7 +1,7 @@
 -- Two words that have the same k blocks are the same, and a rebuild from what is left of a word gives the word.
 -- Assumes nothing.
 use Rattle.std.proofs.Common.{◌≡◌, ℕ, zero, suc, ◌+◌, ◌<◌, ◌≤◌, Bool, true, false, cond, List, [], ◌∷◌, length, is_some, Some, unwrap_or, sym, refl, ap, ◌∙◌, subst, arith}
-use Rattle.std.specs.List.{AllByRecursion as All}
+use Rattle.std.specs.List.{AllByRecursion}
 use Rattle.block.specs.Block.{Block, Blocks, IsBlock}
 use Rattle.block.specs.Count.{count}
 use Rattle.code.specs.Word.{Coding, Completes, Distinct, Has, lowest, AnyKBlocksBelongToExactlyOneWord}
@@ -22,12 +22,12 @@ module _ (p : ℕ → Bool) where
       elim (p n) as (λ b. length (cond b (n ∷ picked p n) (picked p n)) ≡ cond b (suc (count p n)) (count p n))
       [ true ↦ ap suc (picked_length n) | false ↦ picked_length n ]
 
-  picked_all : (P : ℕ → Type 0) (n : ℕ) → ((i : ℕ) → i < n → p i ≡ true → P i) → All P (picked p n)
+  picked_all : (P : ℕ → Type 0) (n : ℕ) → ((i : ℕ) → i < n → p i ≡ true → P i) → AllByRecursion P (picked p n)
   unfolding picked
   picked_all P zero h = tt
   picked_all P (suc n) h =
-      let rest : All P (picked p n) = picked_all P n (λ i l. h i (omega arith)) in
-      (elim (p n) as (λ b. (b ≡ true → P n) → All P (cond b (n ∷ picked p n) (picked p n)))
+      let rest : AllByRecursion P (picked p n) = picked_all P n (λ i l. h i (omega arith)) in
+      (elim (p n) as (λ b. (b ≡ true → P n) → AllByRecursion P (cond b (n ∷ picked p n) (picked p n)))
       [ true ↦ λ g. (g refl, rest) | false ↦ λ g. rest ]) (h n (omega arith))
 
   picked_distinct : (n : ℕ) → Distinct (picked p n)
@@ -42,7 +42,7 @@ agree c completes law h w v enough ww wv hw hv i l =
     let n = c.k + c.m in
     let held : ℕ → Bool = λ i. is_some (h i) in
     let put : Blocks = λ i. unwrap_or (h i) [] in
-    let is : (u : Blocks) → Has n u h → All (λ i. u i ≡ put i) (picked held n) =
+    let is : (u : Blocks) → Has n u h → AllByRecursion (λ i. u i ≡ put i) (picked held n) =
     λ u hu. picked_all held (λ i. u i ≡ put i) n (λ i li t. hu i (put i) li (some_value (h i) t)) in
     let one = law (picked held n) (picked_length held n ∙ enough) (picked_distinct held n) (picked_all held (λ i. i < n) n (λ i li t. li)) put
     (picked_all held (λ i. IsBlock (put i)) n (λ i li t. subst IsBlock (hw i (put i) li (some_value (h i) t)) (completes.blocks w i ww li))) in

@@ -1,6 +1,6 @@
 -- The law of a code, from its form by held blocks. Assumes nothing.
 use Rattle.std.proofs.Common.{◌≡◌, ℕ, ◌+◌, ◌<◌, Bool, true, false, cond, List, [], length, is_some as option_is_some, Some, None, Option, unwrap_or, refl, ap, ◌∙◌, subst}
-use Rattle.std.specs.List.{AllByRecursion as All}
+use Rattle.std.specs.List.{AllByRecursion}
 use Rattle.std.proofs.lemmas.Bool.{false≢true}
 use Rattle.block.specs.Block.{Block, Blocks, Held, IsBlock}
 use Rattle.code.specs.Word.{Coding, Completes, Has, AllBlocks, Distinct, count_held, AnyKBlocksBelongToExactlyOneWord}
@@ -31,24 +31,24 @@ some_value (Some b) e = refl
 some_value None e = absurd (false≢true e)
 
 module _ (ns : List ℕ) (put : Blocks) where
-  put_blocks : (n : ℕ) → All (λ i. IsBlock (put i)) ns → AllBlocks n (held_at ns put)
+  put_blocks : (n : ℕ) → AllByRecursion (λ i. IsBlock (put i)) ns → AllBlocks n (held_at ns put)
   unfolding held_at
   put_blocks n blocks i b l e =
       let s = some_if (member ns i) (put i) b e in
       subst IsBlock s.1 (at_member (λ i. IsBlock (put i)) ns blocks i s.0)
 
-  put_count : (n : ℕ) → Distinct ns → All (λ i. i < n) ns → count_held (held_at ns put) n ≡ length ns
+  put_count : (n : ℕ) → Distinct ns → AllByRecursion (λ i. i < n) ns → count_held (held_at ns put) n ≡ length ns
   unfolding held_at
   put_count n distinct below =
       count_same _ (member ns) n (λ i l. is_some (member ns i) (put i)) ∙ count_member ns n distinct below
 
-  to_held : (n : ℕ) (w : Blocks) → All (λ i. w i ≡ put i) ns → Has n w (held_at ns put)
+  to_held : (n : ℕ) (w : Blocks) → AllByRecursion (λ i. w i ≡ put i) ns → Has n w (held_at ns put)
   unfolding held_at
   to_held n w has i b l e =
       let s = some_if (member ns i) (put i) b e in
       at_member (λ i. w i ≡ put i) ns has i s.0 ∙ s.1
 
-  from_held : (n : ℕ) (w : Blocks) → All (λ i. i < n) ns → Has n w (held_at ns put) → All (λ i. w i ≡ put i) ns
+  from_held : (n : ℕ) (w : Blocks) → AllByRecursion (λ i. i < n) ns → Has n w (held_at ns put) → AllByRecursion (λ i. w i ≡ put i) ns
   unfolding held_at
   from_held n w below has =
       along (λ i. w i ≡ put i) ns ns (λ i t. t)

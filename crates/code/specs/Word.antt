@@ -1,6 +1,6 @@
 -- What a code is: its words, and the law that any k blocks belong to exactly one of them.
 use Rattle.std.specs.Prelude.{◌≡◌, ℕ, ◌+◌, ◌<◌, ◌≤◌, cond, List, [], ◌∷◌, length, is_some, Some, None, ◌≢◌, nat_lt}
-use Rattle.std.specs.List.{AllByRecursion as All}
+use Rattle.std.specs.List.{AllByRecursion}
 use Rattle.block.specs.Block.{Block, Blocks, Held, IsBlock}
 use Rattle.block.specs.Count.{count}
 
@@ -21,20 +21,20 @@ pub record Limits (c : Coding) : Type 0 where
 -- all different
 abbrev pub Distinct : List ℕ → Type 0
 Distinct [] = Unit {0}
-Distinct (x ∷ xs) = All (λ y. x ≢ y) xs × Distinct xs
+Distinct (x ∷ xs) = AllByRecursion (λ y. x ≢ y) xs × Distinct xs
 
 -- exactly one word has, at each of the numbers, the block that is put there
 pub record ExactlyOneWord (c : Coding) (numbers : List ℕ) (put : Blocks) : Type 0 where
   pub word : Blocks
   pub is_word : c.Word word
-  pub has : All (λ n. word n ≡ put n) numbers
-  pub only : (w : Blocks) → c.Word w → All (λ n. w n ≡ put n) numbers → (n : ℕ) → n < c.k + c.m → w n ≡ word n
+  pub has : AllByRecursion (λ n. word n ≡ put n) numbers
+  pub only : (w : Blocks) → c.Word w → AllByRecursion (λ n. w n ≡ put n) numbers → (n : ℕ) → n < c.k + c.m → w n ≡ word n
 
 -- THE LAW OF A CODE: any k blocks, put at any k different block numbers, belong to exactly one word.
 abbrev pub AnyKBlocksBelongToExactlyOneWord : Coding → Type 0
 AnyKBlocksBelongToExactlyOneWord c =
-    (numbers : List ℕ) → length numbers ≡ c.k → Distinct numbers → All (λ n. n < c.k + c.m) numbers
-    → (put : Blocks) → All (λ n. IsBlock (put n)) numbers → ExactlyOneWord c numbers put
+    (numbers : List ℕ) → length numbers ≡ c.k → Distinct numbers → AllByRecursion (λ n. n < c.k + c.m) numbers
+    → (put : Blocks) → AllByRecursion (λ n. IsBlock (put n)) numbers → ExactlyOneWord c numbers put
 
 -- how many blocks are held at the numbers below n
 abbrev pub count_held : Held → ℕ → ℕ

@@ -8,6 +8,9 @@ use crate::command::{Job, Kind};
 use crate::mistake::Mistake;
 use block::BLOCK;
 use code::{Code, Sizes, count_held};
+use codes::cauchy::Cauchy;
+use codes::copies::Copies;
+use codes::xor_sum::XorSum;
 use refusal::kind::Refusal;
 use std::alloc::{AllocError, Global};
 use std::{fmt, fs};
@@ -144,7 +147,7 @@ fn stripes_of(bytes: usize, k: usize) -> usize
 
 // Protects the file by the code, loses what is to be lost, and sees that every byte comes back. No contract: that a file comes
 // back is that of `survive`.
-pub fn carry<'a, C: Code>(
+fn carry<'a, C: Code>(
     rt: &HostRuntime,
     code: &C,
     job: &Job<'a>,
@@ -171,4 +174,14 @@ pub fn carry<'a, C: Code>(
         stripes,
         marks,
     })
+}
+
+// Makes the code that the job asks for, and protects the file by it. No contract: that a file comes back is that of `survive`;
+// that the job's code and sizes are the ones used is only tested.
+pub fn protect<'a>(rt: &HostRuntime, job: &Job<'a>) -> Result<Report<'a>, Mistake<'a>> {
+    match job.kind {
+        Kind::Copy { m } => carry(rt, &Copies::new(m)?, job),
+        Kind::Sum { k } => carry(rt, &XorSum::new(k)?, job),
+        Kind::Rs { k, m } => carry(rt, &Cauchy::new(k, m)?, job),
+    }
 }

@@ -11,12 +11,11 @@
 mod command;
 mod hex;
 mod job;
-mod level;
+mod level_job;
 mod level_report;
 mod level_trial;
 mod mistake;
 mod vectors;
-mod work;
 
 use command::Command;
 use mistake::Mistake;
@@ -25,9 +24,19 @@ use std::{env, io};
 // Does what the words ask, and prints what came of it.
 fn obey<'a>(rt: &HostRuntime, words: &[&'a str]) -> Result<(), Mistake<'a>> {
     match command::parse(rt.alloc(), words)? {
-        Command::Protect(job) => work::protect(rt, &job),
-        Command::Vectors(path) => vectors::compare(rt, path),
+        Command::Protect(job) => match job.ground {
+            Some(ground) => {
+                let report = level_job::protect(rt, ground, &job)?;
+                println!(rt; "{report}")?;
+            }
+            None => {
+                let report = job::protect(rt, &job)?;
+                println!(rt; "{report}")?;
+            }
+        },
+        Command::Vectors(path) => vectors::compare(rt, path)?,
     }
+    Ok(())
 }
 
 // Runs a line of standard input; a mistake in it is said, and is no failure of the program.

@@ -1,7 +1,7 @@
 use Rattle.std.proofs.Common.{◌<◌, ◌≤◌, length, sym, ◌∙◌, ⊎_elim, rules}
 use Rattle.std.proofs.lemmas.List.{get_or_past}
 use Rattle.std.proofs.lemmas.Bool.{cases_lt}
-use Rattle.stripe.proofs.level.load.Goals as goal
+use Rattle.stripe.proofs.level_job.load.Goals as goal
 
 pub returns : goal.returns
 returns c =

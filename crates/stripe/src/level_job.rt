@@ -6,7 +6,7 @@ ghost use Rattle.std.specs.Prelude.{◌≡◌, ℕ, ◌+◌, ◌*◌, ◌^◌, �
 ghost use Rattle.grid.specs.Index.{total, table_refusal};
 ghost use Rattle.stripe.specs.Seen.{piece_size};
 
-use crate::command::{Ground, Job};
+use crate::command::{Ground, Job, Kind};
 use crate::job::{all_below, marks_of, parts_of, read};
 use crate::level_report::{LevelReport, Rank};
 use crate::level_trial::{carry_piece, rank_bytes};
@@ -15,6 +15,9 @@ use bank::Bank;
 use bank::cell::{BLANK, Cell};
 use block::wipe;
 use code::{Code, Sizes};
+use codes::cauchy::Cauchy;
+use codes::copies::Copies;
+use codes::xor_sum::XorSum;
 use refusal::kind::Refusal;
 use std::alloc::Global;
 use store::kinds::Shape;
@@ -97,7 +100,7 @@ fn carry_all<'a, C: Code + Copy>(
 }
 
 // Protects the file on a level, loses the nodes, and sees what comes back. No contract: it speaks of a file.
-pub fn carry<'a, C: Code + Copy>(
+fn carry<'a, C: Code + Copy>(
     rt: &HostRuntime,
     code: C,
     ground: Ground,
@@ -131,4 +134,18 @@ pub fn carry<'a, C: Code + Copy>(
         marks,
         ranks,
     })
+}
+
+// Makes the code that the job asks for, and protects the file by it on a level. No contract: that the job's code and sizes are
+// the ones used is only tested.
+pub fn protect<'a>(
+    rt: &HostRuntime,
+    ground: Ground,
+    job: &Job<'a>,
+) -> Result<LevelReport<'a>, Mistake<'a>> {
+    match job.kind {
+        Kind::Copy { m } => carry(rt, Copies::new(m)?, ground, job),
+        Kind::Sum { k } => carry(rt, XorSum::new(k)?, ground, job),
+        Kind::Rs { k, m } => carry(rt, Cauchy::new(k, m)?, ground, job),
+    }
 }

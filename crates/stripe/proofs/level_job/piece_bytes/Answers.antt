@@ -1,6 +1,6 @@
 use Rattle.std.proofs.Common.{◌*◌, ap, arith}
 use Rattle.std.proofs.lemmas.Nat.{mul-le}
-use Rattle.stripe.proofs.level.piece_bytes.Goals as goal
+use Rattle.stripe.proofs.level_job.piece_bytes.Goals as goal
 
 pub returns : goal.returns
 returns c =
