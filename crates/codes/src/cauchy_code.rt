@@ -8,7 +8,6 @@ ghost use Rattle.codes.specs.Examples.{FieldAndCauchyExamples};
 ghost use Rattle.bytewise.proofs.Law.{completes, determines};
 ghost use Rattle.recipes.proofs.Recipes.{cauchy_works};
 ghost use Rattle.recipes.specs.Recipes.{cauchy_recipe};
-ghost use Rattle.std.proofs.Common.{rules, arith};
 
 use crate::cauchy::Cauchy;
 use bytewise::Bytewise;
@@ -71,7 +70,7 @@ impl Cauchy {
 impl Bytewise for Cauchy {
     ghost recipe = { λ s. cauchy_recipe s.k s.m };
 
-    ghost limits = { first_of (Prim.search rules, Prim.grind (arith, Self.row.coded.inj)) };
+    ghost limits = { λ s. record { k_least = s.few.0; k_most = s.few.1; m_least = s.fewer.0; m_most = s.fewer.1 } };
 
     ghost works = { λ s. cauchy_works s.k s.m s.few.1 s.fewer.1 };
 

@@ -2,7 +2,7 @@
 ghost use Rattle.std.specs.Prelude.{◌≡◌};
 ghost use Rattle.code.specs.Making.{admitted, Makes};
 ghost use Rattle.bytewise.specs.Words.{coded};
-ghost use Rattle.std.proofs.Common.{lit≤, rules, arith};
+ghost use Rattle.std.proofs.Common.{lit≤};
 ghost use Rattle.bytewise.proofs.Law.{completes, determines};
 ghost use Rattle.recipes.proofs.Recipes.{copy_works};
 ghost use Rattle.recipes.specs.Recipes.{copy_recipe};
@@ -27,7 +27,7 @@ impl Copies {
 impl Bytewise for Copies {
     ghost recipe = { λ s. copy_recipe s.m };
 
-    ghost limits = { first_of (Prim.search rules, Prim.grind (arith, Self.row.coded.inj)) };
+    ghost limits = { λ s. record { k_least = lit≤ tt; k_most = lit≤ tt; m_least = s.limits.0; m_most = s.limits.1 } };
 
     ghost works = { λ s. copy_works s.m };
 

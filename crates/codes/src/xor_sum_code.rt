@@ -2,7 +2,7 @@
 ghost use Rattle.std.specs.Prelude.{◌≡◌};
 ghost use Rattle.code.specs.Making.{admitted, Makes};
 ghost use Rattle.bytewise.specs.Words.{coded};
-ghost use Rattle.std.proofs.Common.{lit≤, rules, arith};
+ghost use Rattle.std.proofs.Common.{lit≤};
 ghost use Rattle.bytewise.proofs.Law.{completes, determines};
 ghost use Rattle.recipes.proofs.Recipes.{sum_works};
 ghost use Rattle.recipes.specs.Recipes.{sum_recipe};
@@ -27,7 +27,7 @@ impl XorSum {
 impl Bytewise for XorSum {
     ghost recipe = { λ s. sum_recipe s.k };
 
-    ghost limits = { first_of (Prim.search rules, Prim.grind (arith, Self.row.coded.inj)) };
+    ghost limits = { λ s. record { k_least = s.limits.0; k_most = s.limits.1; m_least = lit≤ tt; m_most = lit≤ tt } };
 
     ghost works = { λ s. sum_works s.k };
 
