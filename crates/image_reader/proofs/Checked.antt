@@ -1,5 +1,5 @@
 -- What the check of an image tells. Assumes nothing.
-use Rattle.std.proofs.Common.{◌≡◌, ℕ, ◌<◌, true, not, List, length, get_or, Some, None, sym, ap, ◌∙◌, arith}
+use Rattle.std.proofs.Common.{◌≡◌, ℕ, ◌<◌, true, not, List, length, get_or, Some, None, sym, ap, subst₂, ◌∙◌, arith}
 use Rattle.std.specs.Option.{option_or}
 use Rattle.std.proofs.lemmas.Bool.{eq-eqb}
 use Rattle.refusal.specs.declared.kind.Refusal.{Refusal}
@@ -31,3 +31,7 @@ module _ (h : Shape) (img : List ℕ) where
 
   pub unrefused : SoundImage h img → image_refusal h img ≡ None
   unrefused k = only_damage (limits_pass h k.grid.limits) k.length ∙ undamaged h img k
+
+-- soundness goes with the sizes and the bytes
+pub sound_as : (h k : Shape) (img own : List ℕ) → h ≡ k → img ≡ own → SoundImage k own → SoundImage h img
+sound_as h k img own e z sound = subst₂ SoundImage (sym e) (sym z) sound
