@@ -3,7 +3,8 @@
 
 Run once, at the top, after the toolchain's own port script: `python3 tools/respell.py`. Words with hyphens and words with humps
 become words with underscores, and hyphenated names of types become names with humps. It reads the .antt files of specs/ and
-proofs/ and the clauses of the .rt files; comments keep their hyphens, but for names in backquotes there. Functions of src/, strings, inputs and outputs are left alone: none of them has a hyphen in a name.
+proofs/ and the clauses of the .rt files; comments keep their hyphens, but for names in backquotes there. Functions of src/,
+strings, inputs and outputs are left alone: none of them has a hyphen in a name.
 `--list` prints the names and writes nothing.
 """
 import glob
@@ -124,7 +125,6 @@ def antt_lines(text, names):
 
 def rt(text, names, file):
     out = []
-    ghost = False
     for line in text.split("\n"):
         at = re.search(r"(^|\s)//", line)
         cut = at.start() if at else len(line)

@@ -12,7 +12,7 @@ use Rattle.grid.proofs.Next.{Step}
 use Rattle.bank.specs.Table.{blank, at, content, row_of}
 use Rattle.bank.specs.Bank.{marks_of, grid_at, SoundTable}
 use Rattle.bank.specs.declared.cell.Cell.{Cell}
-use Rattle.bank.proofs.Places.{get_d_set}
+use Rattle.bank.proofs.Places.{get_or_set}
 
 pub present_some : (x : Cell) → x.present ≡ true → content x ≡ Some x.block
 present_some x e = rw e
@@ -33,14 +33,14 @@ abbrev pub holding : Block → Cell
 holding v = record { present = true; block = v }
 
 pub stored : (xs : List Cell) (j : ℕ) (v : Block) → j < length xs → (i : ℕ) → row_of (set xs j (holding v)) i ≡ cond (eqb i j) (Some v) (row_of xs i)
-stored xs j v j< i = ap content (get_d_set xs j i (holding v) blank j<) ∙ go (eqb i j) where
+stored xs j v j< i = ap content (get_or_set xs j i (holding v) blank j<) ∙ go (eqb i j) where
   go : (b : Bool) → content (cond b (holding v) (at xs i)) ≡ cond b (Some v) (content (at xs i))
   go true = refl
   go false = refl
 
 module _ (h : Shape) (zs : List State) (xs : List Cell) (k : SoundTable h zs xs) where
   pub mark : (s : ℕ) (x : State) → s < 8 → (t : ℕ) → marks_of (set zs s x) t ≡ cond (eqb t s) x (marks_of zs t)
-  mark s x s< t = get_d_set zs s t x Empty (omega (arith, k.marks))
+  mark s x s< t = get_or_set zs s t x Empty (omega (arith, k.marks))
 
   pub kept : {m : Meaning} (zs' : List State) (xs' : List Cell) → Step (grid_at h zs' xs') m → length zs' ≡ length zs → length xs' ≡ length xs → SoundTable h zs' xs'
   kept zs' xs' step z l = record { grid = step.sound; size = l ∙ k.size; marks = z ∙ k.marks }

@@ -6,7 +6,7 @@ ghost use Rattle.code.specs.Making.{admitted, Makes};
 ghost use Rattle.bytewise.specs.Words.{coded};
 ghost use Rattle.codes.specs.Examples.{FieldAndCauchyExamples};
 ghost use Rattle.bytewise.proofs.Law.{completes, determines};
-ghost use Rattle.recipes.proofs.Recipes.{cauchy_works};
+ghost use Rattle.recipes.proofs.Recipes.{cauchy_works, limited};
 ghost use Rattle.recipes.specs.Recipes.{cauchy_recipe};
 
 use crate::cauchy::Cauchy;
@@ -70,7 +70,7 @@ impl Cauchy {
 impl Bytewise for Cauchy {
     ghost recipe = { λ s. cauchy_recipe s.k s.m };
 
-    ghost limits = { λ s. record { k_least = s.few.0; k_most = s.few.1; m_least = s.fewer.0; m_most = s.fewer.1 } };
+    ghost limits = { λ s. limited (cauchy_recipe s.k s.m) s.few s.fewer };
 
     ghost works = { λ s. cauchy_works s.k s.m s.few.1 s.fewer.1 };
 
@@ -97,7 +97,7 @@ impl Bytewise for Cauchy {
 impl Code for Cauchy {
     ghost coding = { λ s. coded (cauchy_recipe s.k s.m) };
 
-    ghost limits = { λ s. record { k_least = s.few.0; k_most = s.few.1; m_least = s.fewer.0; m_most = s.fewer.1 } };
+    ghost limits = { λ s. limited (cauchy_recipe s.k s.m) s.few s.fewer };
 
     ghost determines = { λ s. determines (cauchy_recipe s.k s.m) (cauchy_works s.k s.m s.few.1 s.fewer.1).recovers };
 

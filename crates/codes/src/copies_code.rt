@@ -4,7 +4,7 @@ ghost use Rattle.code.specs.Making.{admitted, Makes};
 ghost use Rattle.bytewise.specs.Words.{coded};
 ghost use Rattle.std.proofs.Common.{lit≤};
 ghost use Rattle.bytewise.proofs.Law.{completes, determines};
-ghost use Rattle.recipes.proofs.Recipes.{copy_works};
+ghost use Rattle.recipes.proofs.Recipes.{copy_works, limited};
 ghost use Rattle.recipes.specs.Recipes.{copy_recipe};
 
 use crate::copies::Copies;
@@ -27,7 +27,7 @@ impl Copies {
 impl Bytewise for Copies {
     ghost recipe = { λ s. copy_recipe s.m };
 
-    ghost limits = { λ s. record { k_least = lit≤ tt; k_most = lit≤ tt; m_least = s.limits.0; m_most = s.limits.1 } };
+    ghost limits = { λ s. limited (copy_recipe s.m) (lit≤ tt, lit≤ tt) s.limits };
 
     ghost works = { λ s. copy_works s.m };
 
@@ -51,7 +51,7 @@ impl Bytewise for Copies {
 impl Code for Copies {
     ghost coding = { λ s. coded (copy_recipe s.m) };
 
-    ghost limits = { λ s. record { k_least = lit≤ tt; k_most = lit≤ tt; m_least = s.limits.0; m_most = s.limits.1 } };
+    ghost limits = { λ s. limited (copy_recipe s.m) (lit≤ tt, lit≤ tt) s.limits };
 
     ghost determines = { λ s. determines (copy_recipe s.m) (copy_works s.m).recovers };
 

@@ -4,7 +4,7 @@ ghost use Rattle.code.specs.Making.{admitted, Makes};
 ghost use Rattle.bytewise.specs.Words.{coded};
 ghost use Rattle.std.proofs.Common.{lit≤};
 ghost use Rattle.bytewise.proofs.Law.{completes, determines};
-ghost use Rattle.recipes.proofs.Recipes.{sum_works};
+ghost use Rattle.recipes.proofs.Recipes.{sum_works, limited};
 ghost use Rattle.recipes.specs.Recipes.{sum_recipe};
 
 use crate::xor_sum::XorSum;
@@ -27,7 +27,7 @@ impl XorSum {
 impl Bytewise for XorSum {
     ghost recipe = { λ s. sum_recipe s.k };
 
-    ghost limits = { λ s. record { k_least = s.limits.0; k_most = s.limits.1; m_least = lit≤ tt; m_most = lit≤ tt } };
+    ghost limits = { λ s. limited (sum_recipe s.k) s.limits (lit≤ tt, lit≤ tt) };
 
     ghost works = { λ s. sum_works s.k };
 
@@ -51,7 +51,7 @@ impl Bytewise for XorSum {
 impl Code for XorSum {
     ghost coding = { λ s. coded (sum_recipe s.k) };
 
-    ghost limits = { λ s. record { k_least = s.limits.0; k_most = s.limits.1; m_least = lit≤ tt; m_most = lit≤ tt } };
+    ghost limits = { λ s. limited (sum_recipe s.k) s.limits (lit≤ tt, lit≤ tt) };
 
     ghost determines = { λ s. determines (sum_recipe s.k) (sum_works s.k).recovers };
 

@@ -12,7 +12,7 @@ use Rattle.grid.specs.Row.{Row}
 use Rattle.grid.proofs.Grid.{by_ltb}
 use Rattle.grid.proofs.Next.{Step}
 use Rattle.image_format.specs.Image.{record_of, head_of, cell_from, state_from, row_of, marks_of, grid_at, SoundImage, Holds}
-use Rattle.image_format.proofs.Image.{get_d_part}
+use Rattle.image_format.proofs.Image.{get_or_part}
 
 cell_back : (h : Shape) (i : ℕ) (o : Option Block) → cell_from (record_of h i o) ≡ o
 cell_back h i None = refl
@@ -33,7 +33,7 @@ held h img k = record { length = k.length; heads = k.heads; records = k.records;
 
 module _ (h : Shape) (img : List ℕ) (marks : ℕ → State) (row : Row) (k : Holds h img marks row) where
   first_byte : (t : ℕ) → t < h.slots → get_or img (8 * t) 0 ≡ get_or (head_of (marks t)) 0 0
-  first_byte t t< = sym (get_d_part img (8 * t) 8 0 0 (omega (arith, k.length)) (omega arith) ∙ ap (λ (j : ℕ). get_or img j 0) (add-zero (8 * t))) ∙ ap (λ (bs : List ℕ). get_or bs 0 0) (k.heads t t<)
+  first_byte t t< = sym (get_or_part img (8 * t) 8 0 0 (omega (arith, k.length)) (omega arith) ∙ ap (λ (j : ℕ). get_or img j 0) (add-zero (8 * t))) ∙ ap (λ (bs : List ℕ). get_or bs 0 0) (k.heads t t<)
 
   pub marks_held : (t : ℕ) → marks_of h img t ≡ marks t
   marks_held t = by_ltb t h.slots (λ b. cond b (state_from (get_or img (8 * t) 0)) Empty ≡ marks t) (λ t<. ap state_from (first_byte t t<) ∙ state_back (marks t)) (λ l. sym (k.past t l))

@@ -7,14 +7,14 @@ use Rattle.image_format.specs.Image.{Over, Wiped}
 length_part : (xs : List ℕ) (b m : ℕ) → b + m ≤ length xs → length (take m (drop b xs)) ≡ m
 length_part xs b m l = length-take-le m (drop b xs) (rw length-drop (omega arith))
 
-pub get_d_part : (xs : List ℕ) (b m k d : ℕ) → b + m ≤ length xs → k < m → get_or (take m (drop b xs)) k d ≡ get_or xs (b + k) 0
-get_d_part xs b m k d l k< = get_or-take m (drop b xs) k d k< ∙ get_or-drop b xs k d ∙ get_or_default xs (b + k) d 0 (omega arith)
+pub get_or_part : (xs : List ℕ) (b m k d : ℕ) → b + m ≤ length xs → k < m → get_or (take m (drop b xs)) k d ≡ get_or xs (b + k) 0
+get_or_part xs b m k d l k< = get_or-take m (drop b xs) k d k< ∙ get_or-drop b xs k d ∙ get_or_default xs (b + k) d 0 (omega arith)
 
 -- a part is known by its bytes
 part_is : (ys new : List ℕ) (b m : ℕ) → b + m ≤ length ys → length new ≡ m → ((k : ℕ) → k < m → get_or ys (b + k) 0 ≡ get_or new k 0) → take m (drop b ys) ≡ new
 part_is ys new b m l n f = same_lists (take m (drop b ys)) new (length_part ys b m l ∙ sym n) (λ k d k<. byte k d (subst (λ (j : ℕ). k < j) (length_part ys b m l) k<)) where
   byte : (k d : ℕ) → k < m → get_or (take m (drop b ys)) k d ≡ get_or new k d
-  byte k d k< = get_d_part ys b m k d l k< ∙ f k k< ∙ get_or_default new k 0 d (omega arith)
+  byte k d k< = get_or_part ys b m k d l k< ∙ f k k< ∙ get_or_default new k 0 d (omega arith)
 
 within : (a b k : ℕ) → a ≤ k → k < b → (leb a k && ltb k b) ≡ true
 within a b k l r = and_from _ _ (le-leb a k l) (lt-ltb k b r)
@@ -24,7 +24,7 @@ outside a b c m k apart k< = ⊎_elim (λ (q : c + m ≤ a). and_left _ _ (lt-le
 
 module _ (xs ys : List ℕ) (same : length ys ≡ length xs) where
   part_same : (b m : ℕ) → b + m ≤ length xs → ((k : ℕ) → k < m → get_or ys (b + k) 0 ≡ get_or xs (b + k) 0) → take m (drop b ys) ≡ take m (drop b xs)
-  part_same b m l f = part_is ys (take m (drop b xs)) b m (omega arith) (length_part xs b m l) (λ k k<. f k k< ∙ sym (get_d_part xs b m k 0 l k<))
+  part_same b m l f = part_is ys (take m (drop b xs)) b m (omega arith) (length_part xs b m l) (λ k k<. f k k< ∙ sym (get_or_part xs b m k 0 l k<))
 
   module _ (new : List ℕ) (a w : ℕ) (n : length new ≡ w) (l : a + w ≤ length xs) (o : Over xs ys a new) where
     fits : a + length new ≤ length xs

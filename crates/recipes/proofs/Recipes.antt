@@ -1,7 +1,5 @@
--- The three recipes work. Assumes nothing.
-use mathlib.Core.Path.{refl, sym}
-use Prim.Native.Nat.{ℕ, ◌≤◌}
-use lib.Dec.{lit<}
+-- The three recipes work, and are within the limits. Assumes nothing.
+use Rattle.std.proofs.Common.{ℕ, ◌≤◌, refl, sym, lit<}
 use Rattle.field.specs.Field.{mul}
 use Rattle.field.specs.Sums.{summed}
 use Rattle.field.proofs.Laws.{mul_one}
@@ -9,7 +7,8 @@ use Rattle.recovery.specs.Rules.{every}
 use Rattle.recovery.proofs.Sums.{summed_same}
 use Rattle.recovery.proofs.Plain.{copy_recovers, sum_recovers}
 use Rattle.interpolation.proofs.Cauchy.{cauchy_recovers}
-use Rattle.bytewise.specs.Words.{Works}
+use Rattle.code.specs.Word.{Limits}
+use Rattle.bytewise.specs.Words.{Recipe, Works, coded}
 use Rattle.recipes.specs.Recipes.{copy_recipe, sum_recipe, cauchy_recipe}
 
 pub copy_works : (m : ℕ) → Works (copy_recipe m)
@@ -24,3 +23,7 @@ sum_works k = record {
 
 pub cauchy_works : (k m : ℕ) → k ≤ 12 → m ≤ 4 → Works (cauchy_recipe k m)
 cauchy_works k m hk hm = record { recovers = cauchy_recovers k m hk hm; sums = λ e w l small. refl }
+
+-- a recipe within the limits gives a code within them
+pub limited : (r : Recipe) → (1 ≤ r.k) × (r.k ≤ 12) → (1 ≤ r.m) × (r.m ≤ 4) → Limits (coded r)
+limited r few fewer = record { k_least = few.0; k_most = few.1; m_least = fewer.0; m_most = fewer.1 }
