@@ -10,6 +10,17 @@ count_more p n t = rw add-one (cond-true (p n) _ _ t ∙ sym (add-one (count p n
 pub count_skip : (p : ℕ → Bool) (n : ℕ) → p n ≡ false → count p (n + 1) ≡ count p n
 count_skip p n t = rw add-one (cond-false (p n) _ _ t)
 
+-- the number 0, and then the others
+pub count_front : (p : ℕ → Bool) (n : ℕ) → count p (suc n) ≡ cond (p 0) (1 + count (λ i. p (suc i)) n) (count (λ i. p (suc i)) n)
+count_front p zero = refl
+count_front p (suc n) = step (p (suc n)) (p 0) _ _ (count_front p n)
+  where
+    step : (a b : Bool) (x y : ℕ) → x ≡ cond b (1 + y) y → cond a (suc x) x ≡ cond b (1 + cond a (suc y) y) (cond a (suc y) y)
+    step true true x y h = omega arith
+    step true false x y h = omega arith
+    step false true x y h = h
+    step false false x y h = h
+
 pub count_same : (p q : ℕ → Bool) (n : ℕ) → ((i : ℕ) → i < n → p i ≡ q i) → count p n ≡ count q n
 count_same p q zero h = refl
 count_same p q (suc n) h = ap₂ (λ b x. cond b (suc x) x) (h n (omega arith)) (count_same p q n (λ i l. h i (omega arith)))

@@ -6,11 +6,11 @@ ghost use Rattle.std.specs.Prelude.{◌≡◌, ℕ, ◌<◌, length, slice_index
 // The bytes of a block.
 pub const BLOCK: usize = 64;
 
-// Zeros in every place.
-pub fn wipe(out: &mut [u8])
-    ensures { (j : ℕ) → j < length out.new → slice_index out.new j ≡ 0 }
+// Fills a buffer with a part of a file, and zeros after it.
+pub fn load(out: &mut [u8], part: &[u8])
+    ensures { (j : ℕ) → j < length out.new → slice_index out.new j ≡ slice_index part.now j }
 {
-    for x in out.iter_mut() {
-        *x = 0;
-    }
+    let n = out.len().min(part.len());
+    out[..n].copy_from_slice(&part[..n]);
+    out[n..].fill(0);
 }

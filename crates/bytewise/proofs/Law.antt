@@ -1,19 +1,17 @@
 -- The law of a code from that of its bytes. Assumes nothing.
-use Rattle.std.proofs.Common.{◌≡◌, ℕ, ◌+◌, ◌<◌, ◌≤◌, [], length, get_or, is_some, unwrap_or, sym, ap, ◌∙◌, subst, ⊎_elim, zero-add, lit<}
+use Rattle.std.proofs.Common.{◌≡◌, ℕ, ◌+◌, ◌<◌, [], length, get_or, is_some, unwrap_or, sym, ap, ◌∙◌, subst, zero-add}
 use mathlib.Core.Path.{fun_ext}
 use Rattle.std.proofs.lemmas.List.FromFn.{get_or-map-range_with_len, length-map-range_with_len}
-use Rattle.std.proofs.lemmas.List.{get_or_past}
-use Rattle.std.proofs.lemmas.Bool.{cases_lt}
 use Rattle.block.specs.Block.{Blocks, Held, IsBlock}
 use Rattle.block.specs.Count.{count}
-use Rattle.block.proofs.Bytes.{same_block}
+use Rattle.block.proofs.Bytes.{same_block, all_bytes}
 use Rattle.field.specs.Field.{mul}
 use Rattle.field.proofs.Laws.{mul_byte}
 use Rattle.recovery.specs.Recovers.{ByteWord, Recovers, recovered}
 use Rattle.recovery.proofs.Sums.{summed_same, summed_byte}
 use Rattle.code.specs.Word.{Completes, AllBlocks, Has, AnyKBlocksBelongToExactlyOneWord}
 use Rattle.code.proofs.Law.{any_k, some_value}
-use Rattle.bytewise.specs.Words.{Recipe, WordByBytes, held, column, completed, coded}
+use Rattle.bytewise.specs.Words.{Recipe, Works, WordByBytes, held, column, completed, coded}
 
 module _ (r : Recipe) (h : Held) where
   abbrev byte_at : ℕ → ℕ → ℕ
@@ -31,10 +29,7 @@ module _ (r : Recipe) (h : Held) where
   completed_block : (c : ℕ) → IsBlock (completed r h c)
   completed_block c = record {
     size = completed_size c;
-    bytes = λ j.
-        ⊎_elim (λ (l : j < 64). subst (λ x. x < 256) (sym (completed_at c j l)) (byte_below c j))
-        (λ (l : 64 ≤ j). subst (λ x. x < 256) (sym (get_or_past (completed r h c) j 0 (subst (λ n. n ≤ j) (sym (completed_size c)) l))) (lit< tt))
-        (cases_lt j 64);
+    bytes = all_bytes (completed r h c) (λ j l. subst (λ x. x < 256) (sym (completed_at c j (subst (λ n. j < n) (completed_size c) l))) (byte_below c j));
   }
 
   module _ (recovers : Recovers r.k r.m r.rule r.weight) (enough : count (held h) (r.k + r.m) ≡ r.k) where

@@ -5,19 +5,26 @@ ghost use Rattle.std.specs.Prelude.{◌≡◌, ℕ, ◌+◌, ◌*◌, ◌<◌, �
 ghost use Rattle.block.specs.Count.{count};
 ghost use Rattle.field.specs.Field.{mul};
 ghost use Rattle.field.specs.Sums.{summed};
-ghost use Rattle.recovery.specs.Rules.{every};
+ghost use Rattle.refusal.specs.Answer.{outcome};
 ghost use Rattle.code.specs.Word.{Limits, lowest};
 ghost use Rattle.code.specs.Calls.{Checks, Rebuilds, check_refusal, rebuild_refusal, first, marked, marks_held};
 ghost use Rattle.bytewise.specs.Words.{Recipe, Works, coded, completed};
 
-use block::{BLOCK, wipe};
-use code::too_few;
+use block::BLOCK;
+use code::{Sizes, too_few};
 use field::product;
 use refusal::kind::Refusal;
+
+// The most blocks that a word has. Their flags stand in a fixed buffer, since a code allocates nothing.
+const MOST: usize = 16;
 
 // What a byte-wise code gives: its sizes, the coefficients of its checks, and the weights of a rebuild.
 pub trait Bytewise {
     ghost recipe: { Self → Recipe };
+
+    ghost limits: { (s : Self) → Limits (coded (recipe s)) };
+
+    ghost works: { (s : Self) → Works (recipe s) };
 
     fn data(&self) -> usize
         ensures { result ≡ (recipe self.now).k };
@@ -35,129 +42,123 @@ pub trait Bytewise {
         requires long { length chosen.now ≡ (recipe self.now).k + (recipe self.now).m }
         requires within { (wanted < (recipe self.now).k + (recipe self.now).m) × (i < (recipe self.now).k + (recipe self.now).m) }
         ensures { result ≡ (recipe self.now).weight (λ j. get_or chosen.now j false) wanted i };
-
-    ghost limits: { (s : Self) → Limits (coded (recipe s)) };
-
-    ghost works: { (s : Self) → Works (recipe s) };
 }
 
 // Adds a block, times a weight, to what a buffer holds: the one place where blocks are multiplied.
-fn add_scaled(out: &mut [u8], block: &[u8], weight: u8)
-    requires { (length out.old ≡ 64) × (length block.now ≡ 64) }
+fn add_scaled(out: &mut [u8; BLOCK], block: &[u8], weight: u8)
+    requires { length block.now ≡ 64 }
     ensures { (j : ℕ) → j < 64 → slice_index out.new j ≡ bit_xor (slice_index out.old j) (mul (slice_index block.now j) weight) }
 {
-    for j in 0..BLOCK {
-        out[j] ^= product(block[j], weight);
+    // The other byte by its place: of what is written through a zip of two slices nothing is known afterwards.
+    for (j, byte) in out.iter_mut().enumerate() {
+        *byte ^= product(block[j], weight);
     }
 }
 
 // Writes check e, the sum of the data, each times its coefficient.
-fn sum_data<B: Bytewise>(code: &B, e: usize, given: &[u8], out: &mut [u8])
+fn sum_data<B: Bytewise>(code: &B, e: usize, given: &[u8], out: &mut [u8; BLOCK])
     requires number { e < (B.Bytewise.recipe code.now).m }
-    requires long { (length given.now ≡ (B.Bytewise.recipe code.now).k * 64) × (length out.old ≡ 64) }
+    requires long { length given.now ≡ (B.Bytewise.recipe code.now).k * 64 }
     ensures { out.new ≡ completed (B.Bytewise.recipe code.now) (first (B.Bytewise.recipe code.now).k given.now) ((B.Bytewise.recipe code.now).k + e) }
 {
-    wipe(out);
-    for d in 0..code.data() {
-        let at = d * BLOCK;
-        add_scaled(out, &given[at..at + BLOCK], code.coefficient(e, d));
+    out.fill(0);
+    for (d, block) in given.chunks_exact(BLOCK).enumerate() {
+        add_scaled(out, block, code.coefficient(e, d));
     }
 }
 
-// Chooses the k held blocks with the lowest numbers.
-fn choose(k: usize, marks: &[u8], chosen: &mut [bool])
-    requires { length chosen.old ≡ length marks.now }
-    ensures { (i : ℕ) → i < length marks.now → slice_index_or chosen.new i false ≡ marks_held marks.now i && nat_lt (count (marks_held marks.now) i) k }
+// Flags at the k held blocks with the lowest numbers, and at no others.
+fn choose(k: usize, marks: &[u8]) -> [bool; MOST]
+    requires { length marks.now ≤ 16 }
+    ensures { (i : ℕ) → slice_index_or result i false ≡ marks_held marks.now i && nat_lt (count (marks_held marks.now) i) k }
 {
-    let mut seen: usize = 0;
-    for i in 0..marks.len() {
-        chosen[i] = false;
-        if marks[i] != 0 {
-            chosen[i] = seen < k;
-            seen += 1;
-        }
+    let mut chosen = [false; MOST];
+    for (i, _) in marks
+        .iter()
+        .enumerate()
+        .filter(|(_, mark)| **mark != 0)
+        .take(k)
+    {
+        // By its place: of what is written through a zip of two slices nothing is known afterwards.
+        chosen[i] = true;
     }
+    chosen
 }
 
 // Writes the sum of the chosen blocks, each times its weight in the wanted one.
-fn sum_chosen<B: Bytewise>(code: &B, wanted: usize, chosen: &[bool], blocks: &[u8], out: &mut [u8])
+fn sum_chosen<B: Bytewise>(
+    code: &B,
+    wanted: usize,
+    chosen: &[bool],
+    blocks: &[u8],
+    out: &mut [u8; BLOCK],
+)
     requires number { wanted < (B.Bytewise.recipe code.now).k + (B.Bytewise.recipe code.now).m }
-    requires long { (length chosen.now ≡ (B.Bytewise.recipe code.now).k + (B.Bytewise.recipe code.now).m) × ((length blocks.now ≡ ((B.Bytewise.recipe code.now).k + (B.Bytewise.recipe code.now).m) * 64) × (length out.old ≡ 64)) }
+    requires long { (length chosen.now ≡ (B.Bytewise.recipe code.now).k + (B.Bytewise.recipe code.now).m) × (length blocks.now ≡ ((B.Bytewise.recipe code.now).k + (B.Bytewise.recipe code.now).m) * 64) }
     ensures { (j : ℕ) → j < 64 → slice_index out.new j ≡ summed (λ i. get_or chosen.now i false) (λ i. mul (slice_index blocks.now (i * 64 + j)) ((B.Bytewise.recipe code.now).weight (λ i. get_or chosen.now i false) wanted i)) ((B.Bytewise.recipe code.now).k + (B.Bytewise.recipe code.now).m) }
 {
-    wipe(out);
-    for i in 0..chosen.len() {
-        if chosen[i] {
-            let at = i * BLOCK;
-            add_scaled(out, &blocks[at..at + BLOCK], code.weight(chosen, wanted, i));
+    out.fill(0);
+    for ((i, block), is_chosen) in blocks.chunks_exact(BLOCK).enumerate().zip(chosen) {
+        if *is_chosen {
+            add_scaled(out, block, code.weight(chosen, wanted, i));
         }
     }
 }
 
-// Writes the wanted block from the k held ones with the lowest numbers; `chosen` has room for a flag for each block.
-fn restore<B: Bytewise>(
-    code: &B,
-    wanted: usize,
-    marks: &[u8],
-    blocks: &[u8],
-    chosen: &mut [bool],
-    out: &mut [u8],
-)
-    requires number { wanted < (B.Bytewise.recipe code.now).k + (B.Bytewise.recipe code.now).m }
-    requires room { ((B.Bytewise.recipe code.now).k + (B.Bytewise.recipe code.now).m ≤ length chosen.old) × (length out.old ≡ 64) }
-    requires long { (length marks.now ≡ (B.Bytewise.recipe code.now).k + (B.Bytewise.recipe code.now).m) × (length blocks.now ≡ ((B.Bytewise.recipe code.now).k + (B.Bytewise.recipe code.now).m) * 64) }
-    ensures { out.new ≡ completed (B.Bytewise.recipe code.now) (lowest (B.Bytewise.recipe code.now).k (marked marks.now blocks.now)) wanted }
+// Refuses a check of data of the wrong length, or of no such number.
+fn admit_check<B: Bytewise>(code: &B, e: usize, given: usize) -> Result<(), Refusal>
+    ensures { result ≡ outcome (check_refusal (coded (B.Bytewise.recipe code.now)) e given 64) tt }
 {
-    let flags = &mut chosen[0..marks.len()];
-    choose(code.data(), marks, flags);
-    sum_chosen(code, wanted, flags, blocks, out);
-}
-
-// Why a check is refused, if it is.
-fn check_refused<B: Bytewise>(code: &B, e: usize, given: usize, room: usize) -> Option<Refusal>
-    ensures { result ≡ check_refusal (coded (B.Bytewise.recipe code.now)) e given room }
-{
-    if given != code.data() * BLOCK || room != BLOCK {
-        return Some(Refusal::Length);
+    if given != code.data() * BLOCK {
+        return Err(Refusal::Length);
     }
     if e >= code.checks() {
-        return Some(Refusal::BlockNumber);
+        return Err(Refusal::BlockNumber);
     }
-    None
+    Ok(())
 }
 
 // The check of a byte-wise code, for an implementation of `Code`.
 pub fn check<B: Bytewise>(code: &B, e: usize, given: &[u8], out: &mut [u8]) -> Result<(), Refusal>
     ensures { Checks (coded (B.Bytewise.recipe code.now)) e given.now out.old result out.new }
 {
-    if let Some(refusal) = check_refused(code, e, given.len(), out.len()) {
-        return Err(refusal);
-    }
+    // Room of any other length than a block's is refused.
+    let out: &mut [u8; BLOCK] = out.as_mut_array().ok_or(Refusal::Length)?;
+    admit_check(code, e, given.len())?;
     sum_data(code, e, given, out);
     Ok(())
 }
 
-// Why a rebuild is refused, if it is.
-fn rebuild_refused<B: Bytewise>(
+// Refuses a rebuild of marks or blocks of the wrong length, from too few blocks, or of no such number.
+fn admit_rebuild<B: Bytewise>(
     code: &B,
     number: usize,
     marks: &[u8],
     given: usize,
-    room: usize,
-) -> Option<Refusal>
-    ensures { result ≡ rebuild_refusal (coded (B.Bytewise.recipe code.now)) number marks.now given room }
+) -> Result<(), Refusal>
+    ensures { result ≡ outcome (rebuild_refusal (coded (B.Bytewise.recipe code.now)) number marks.now given 64) tt }
 {
     let n = code.data() + code.checks();
-    if marks.len() != n || given != n * BLOCK || room != BLOCK {
-        return Some(Refusal::Length);
+    if marks.len() != n || given != n * BLOCK {
+        return Err(Refusal::Length);
     }
     if too_few(marks, code.data()) {
-        return Some(Refusal::TooFewBlocks);
+        return Err(Refusal::TooFewBlocks);
     }
     if number >= n {
-        return Some(Refusal::BlockNumber);
+        return Err(Refusal::BlockNumber);
     }
-    None
+    Ok(())
+}
+
+// Writes the wanted block from the k held ones with the lowest numbers.
+fn restore<B: Bytewise>(code: &B, wanted: usize, marks: &[u8], blocks: &[u8], out: &mut [u8; BLOCK])
+    requires number { wanted < (B.Bytewise.recipe code.now).k + (B.Bytewise.recipe code.now).m }
+    requires long { (length marks.now ≡ (B.Bytewise.recipe code.now).k + (B.Bytewise.recipe code.now).m) × (length blocks.now ≡ ((B.Bytewise.recipe code.now).k + (B.Bytewise.recipe code.now).m) * 64) }
+    ensures { out.new ≡ completed (B.Bytewise.recipe code.now) (lowest (B.Bytewise.recipe code.now).k (marked marks.now blocks.now)) wanted }
+{
+    let chosen = choose(code.data(), marks);
+    sum_chosen(code, wanted, &chosen[..marks.len()], blocks, out);
 }
 
 // The rebuild of a byte-wise code, for an implementation of `Code`.
@@ -170,10 +171,20 @@ pub fn rebuild<B: Bytewise>(
 ) -> Result<(), Refusal>
     ensures { Rebuilds (coded (B.Bytewise.recipe code.now)) number marks.now blocks.now out.old result out.new }
 {
-    if let Some(refusal) = rebuild_refused(code, number, marks, blocks.len(), out.len()) {
-        return Err(refusal);
-    }
-    let mut chosen = [false; 16];
-    restore(code, number, marks, blocks, &mut chosen, out);
+    // Room of any other length than a block's is refused.
+    let out: &mut [u8; BLOCK] = out.as_mut_array().ok_or(Refusal::Length)?;
+    admit_rebuild(code, number, marks, blocks.len())?;
+    restore(code, number, marks, blocks, out);
     Ok(())
+}
+
+// The sizes of a byte-wise code, for an implementation of `Code`.
+pub fn sizes<B: Bytewise>(code: &B) -> Sizes
+    ensures k { result.k ≡ (B.Bytewise.recipe code.now).k }
+    ensures m { result.m ≡ (B.Bytewise.recipe code.now).m }
+{
+    Sizes {
+        k: code.data(),
+        m: code.checks(),
+    }
 }

@@ -1,10 +1,11 @@
 -- The law of a code, from its form by held blocks. Assumes nothing.
-use Rattle.std.proofs.Common.{◌≡◌, ℕ, ◌+◌, ◌<◌, Bool, true, false, cond, List, [], length, is_some as option_is_some, Some, None, Option, unwrap_or, refl, ap, ◌∙◌, subst}
+use Rattle.std.proofs.Common.{◌≡◌, ℕ, ◌+◌, ◌<◌, Bool, true, cond, List, [], length, is_some, Some, None, Option, unwrap_or, refl, ap, ◌∙◌, subst}
 use Rattle.std.specs.List.{AllByRecursion}
 use Rattle.std.proofs.lemmas.Bool.{false≢true}
 use Rattle.block.specs.Block.{Block, Blocks, Held, IsBlock}
 use Rattle.code.specs.Word.{Coding, Completes, Has, AllBlocks, Distinct, count_held, AnyKBlocksBelongToExactlyOneWord}
 use Rattle.block.proofs.Counts.{count_same}
+use Rattle.code.proofs.Lowest.{kept, some_under}
 use Rattle.code.proofs.Members.{member, count_member, along, at_member}
 
 -- two words that have the same k blocks are the same
@@ -18,15 +19,10 @@ held_at : List ℕ → Blocks → Held
 held_at ns put i = cond (member ns i) (Some (put i)) None
 
 pub some_if : (b : Bool) (x y : Block) → cond b (Some x) None ≡ Some y → (b ≡ true) × (x ≡ y)
-some_if true x y e = (refl, ap (λ o. unwrap_or o x) e)
-some_if false x y e = absurd (false≢true (ap option_is_some e))
-
-pub is_some : (b : Bool) (x : Block) → option_is_some (cond b (Some x) None) ≡ b
-is_some true x = refl
-is_some false x = refl
+some_if b x y e = let s = kept b (Some x) y e in (s.0, ap (λ o. unwrap_or o x) s.1)
 
 -- a held block is there
-pub some_value : (o : Option Block) → option_is_some o ≡ true → o ≡ Some (unwrap_or o [])
+pub some_value : (o : Option Block) → is_some o ≡ true → o ≡ Some (unwrap_or o [])
 some_value (Some b) e = refl
 some_value None e = absurd (false≢true e)
 
@@ -40,7 +36,7 @@ module _ (ns : List ℕ) (put : Blocks) where
   put_count : (n : ℕ) → Distinct ns → AllByRecursion (λ i. i < n) ns → count_held (held_at ns put) n ≡ length ns
   unfolding held_at
   put_count n distinct below =
-      count_same _ (member ns) n (λ i l. is_some (member ns i) (put i)) ∙ count_member ns n distinct below
+      count_same _ (member ns) n (λ i l. some_under (member ns i) (Some (put i))) ∙ count_member ns n distinct below
 
   to_held : (n : ℕ) (w : Blocks) → AllByRecursion (λ i. w i ≡ put i) ns → Has n w (held_at ns put)
   unfolding held_at

@@ -25,7 +25,8 @@ count_lowest k p (suc n) =
       | false ↦ count_lowest k p n
     ]
 
-some_under : (a : Bool) (o : Option Block) → is_some (cond a o None) ≡ (is_some o && a)
+-- what is there under a test
+pub some_under : (a : Bool) (o : Option Block) → is_some (cond a o None) ≡ (is_some o && a)
 some_under true None = refl
 some_under true (Some b) = refl
 some_under false None = refl

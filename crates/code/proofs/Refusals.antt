@@ -1,12 +1,17 @@
--- A rebuild with the right lengths, enough held blocks and a right number is not refused. Assumes nothing.
-use Rattle.std.proofs.Common.{◌≡◌, ℕ, ◌+◌, ◌*◌, ◌<◌, ◌≤◌, Bool, true, false, not, ◌||◌, ltb, leb, List, length, None, ap, ◌∙◌}
+-- A check with the right lengths and a right number is not refused, nor a rebuild that has enough held blocks too. Assumes nothing.
+use Rattle.std.proofs.Common.{◌≡◌, ℕ, ◌+◌, ◌*◌, ◌<◌, ◌≤◌, Bool, true, false, not, ◌||◌, ltb, leb, List, length, None, ap, ◌∙◌, ap₂}
 use Rattle.std.proofs.lemmas.Bool.{eq-eqb, le-ltb, lt-leb}
 use Rattle.refusal.specs.Answer.{refuse}
 use Rattle.refusal.specs.declared.kind.Refusal.TheVariants.{Length, TooFewBlocks, BlockNumber}
 use Rattle.refusal.proofs.Turning.{refuse_later}
 use Rattle.block.specs.Count.{count}
 use Rattle.code.specs.Word.{Coding}
-use Rattle.code.specs.Calls.{marks_held, rebuild_refusal}
+use Rattle.code.specs.Calls.{marks_held, check_refusal, rebuild_refusal}
+
+pub check_accepted : (c : Coding) (e given room : ℕ) → e < c.m → given ≡ c.k * 64 → room ≡ 64 → check_refusal c e given room ≡ None
+check_accepted c e given room below long block =
+    refuse_later _ Length _ (ap₂ (λ x y. not x || not y) (eq-eqb given (c.k * 64) long) (eq-eqb room 64 block))
+    ∙ refuse_later _ BlockNumber None (lt-leb c.m e below)
 
 none_wrong : (a b c : Bool) → a ≡ true → b ≡ true → c ≡ true → (not a || (not b || not c)) ≡ false
 none_wrong a b c p q r = ap (λ x. not x || (not b || not c)) p ∙ ap (λ x. not x || not c) q ∙ ap not r

@@ -4,6 +4,7 @@
 ghost use Rattle.std.specs.Prelude.{◌≡◌, length, nat_lt};
 ghost use Rattle.block.specs.Count.{count};
 ghost use Rattle.code.specs.Word.{Coding, Limits, AnyKBlocksBelongToExactlyOneWord, Completes};
+ghost use Rattle.code.specs.Making.{admitted};
 ghost use Rattle.code.specs.Calls.{Checks, Rebuilds, marks_held};
 
 use refusal::kind::Refusal;
@@ -15,6 +16,15 @@ pub struct Sizes {
     pub k: usize,
     // check blocks
     pub m: usize,
+}
+
+impl Sizes {
+    // Whether a code may have these numbers of blocks.
+    pub fn is_admitted(&self) -> bool
+        ensures { result ≡ admitted self.now.k self.now.m }
+    {
+        (1..=12).contains(&self.k) && (1..=4).contains(&self.m)
+    }
 }
 
 // A code of any make. What it means is the set of its words; no type is a code without the proofs of its laws.
@@ -36,7 +46,8 @@ pub trait Code {
     fn check(&self, e: usize, given: &[u8], out: &mut [u8]) -> Result<(), Refusal>
         ensures { Checks (coding self.now) e given.now out.old result out.new };
 
-    // Writes the block of that number of the one word that has the k held blocks with the lowest numbers.
+    // Writes the block of that number of the one word that has the k held blocks with the lowest numbers. The marks are bytes,
+    // 0 for missing and any other for held: flags would ask more of callers.
     fn rebuild(
         &self,
         number: usize,
@@ -48,16 +59,11 @@ pub trait Code {
 }
 
 // How many marks say that a block is held.
+#[tactic(auto, using(crate::proofs::Marks::count_marks))]
 pub fn count_held(marks: &[u8]) -> usize
     ensures { result ≡ count (marks_held marks.now) (length marks.now) }
 {
-    let mut n = 0;
-    for i in 0..marks.len() {
-        if marks[i] != 0 {
-            n += 1;
-        }
-    }
-    n
+    marks.iter().filter(|mark| **mark != 0).count()
 }
 
 // Whether the marks leave fewer than k blocks.

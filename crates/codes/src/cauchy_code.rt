@@ -15,16 +15,18 @@ use code::{Code, Sizes};
 use field::{inverse, product};
 use refusal::kind::Refusal;
 
-// Every data block, as chosen blocks.
+// Every data block, as chosen blocks: a fixed buffer of the most there can be, since a code allocates nothing.
 const EVERY: [bool; 12] = [true; 12];
 
 impl Cauchy {
     // k data blocks and m checks. The worked values of field and code stand here too.
+    #[tactic(auto, using(crate::proofs::Examples::examples))]
     pub fn new(k: usize, m: usize) -> Result<Cauchy, Refusal>
         ensures makes { Makes (admitted k m) (λ c. (c.k ≡ k) × (c.m ≡ m)) result }
         ensures examples { FieldAndCauchyExamples }
     {
-        if k < 1 || k > 12 || m < 1 || m > 4 {
+        let sizes = Sizes { k, m };
+        if !sizes.is_admitted() {
             return Err(Refusal::Sizes);
         }
         Ok(Cauchy { k, m })
@@ -42,16 +44,15 @@ impl Cauchy {
         }
     }
 
-    // The product of the differences between the point of block x and those of the chosen of the first n blocks, without
-    // block i.
-    fn gaps(&self, chosen: &[bool], n: usize, x: usize, i: usize) -> u8
-        requires { (n ≤ length chosen.now) × ((n ≤ self.now.k + self.now.m) × (x < self.now.k + self.now.m)) }
-        ensures { result ≡ gaps self.now.k n (λ j. slice_index_or chosen.now j false) x i }
+    // The product of the differences between the point of block x and those of the chosen blocks, without block i.
+    fn gaps(&self, chosen: &[bool], x: usize, i: usize) -> u8
+        requires { (length chosen.now ≤ self.now.k + self.now.m) × (x < self.now.k + self.now.m) }
+        ensures { result ≡ gaps self.now.k (length chosen.now) (λ j. slice_index_or chosen.now j false) x i }
     {
         let at = self.point(x);
         let mut all = 1;
-        for j in 0..n {
-            if chosen[j] && j != i {
+        for (j, is_chosen) in chosen.iter().enumerate() {
+            if *is_chosen && j != i {
                 all = product(all, at ^ self.point(j));
             }
         }
@@ -63,7 +64,7 @@ impl Cauchy {
         requires { x < self.now.k + self.now.m }
         ensures { result ≡ gaps self.now.k self.now.k every x x }
     {
-        self.gaps(&EVERY, self.k, x, x)
+        self.gaps(&EVERY[..self.k], x, x)
     }
 }
 
@@ -82,32 +83,31 @@ impl Bytewise for Cauchy {
         self.m
     }
 
+    #[tactic(auto, using(field::proofs::Inverses::inverse_or_zero))]
     fn coefficient(&self, e: usize, d: usize) -> u8 {
         inverse(e as u8 ^ (16 + d as u8)).unwrap_or(0)
     }
 
     fn weight(&self, chosen: &[bool], wanted: usize, i: usize) -> u8 {
-        let n = self.k + self.m;
-        let over = product(self.scale(i), self.gaps(chosen, n, wanted, i));
-        let under = product(self.scale(wanted), self.gaps(chosen, n, i, i));
+        let over = product(self.scale(i), self.gaps(chosen, wanted, i));
+        let under = product(self.scale(wanted), self.gaps(chosen, i, i));
         product(over, inverse(under).unwrap_or(0))
     }
 }
 
+// Handed on call by call, as for each of the three codes: no impl for all byte-wise codes at once is allowed, since the trait
+// is of a lower crate, which knows no bytes.
 impl Code for Cauchy {
-    ghost coding = { λ s. coded (cauchy_recipe s.k s.m) };
+    ghost coding = { λ s. coded (⟦<Cauchy as Bytewise>⟧.recipe s) };
 
-    ghost limits = { λ s. limited (cauchy_recipe s.k s.m) s.few s.fewer };
+    ghost limits = { ⟦<Cauchy as Bytewise>⟧.limits };
 
-    ghost determines = { λ s. determines (cauchy_recipe s.k s.m) (cauchy_works s.k s.m s.few.1 s.fewer.1).recovers };
+    ghost determines = { λ s. determines (⟦<Cauchy as Bytewise>⟧.recipe s) (⟦<Cauchy as Bytewise>⟧.works s).recovers };
 
-    ghost completes = { λ s. completes (cauchy_recipe s.k s.m) (cauchy_works s.k s.m s.few.1 s.fewer.1).recovers };
+    ghost completes = { λ s. completes (⟦<Cauchy as Bytewise>⟧.recipe s) (⟦<Cauchy as Bytewise>⟧.works s).recovers };
 
     fn sizes(&self) -> Sizes {
-        Sizes {
-            k: self.k,
-            m: self.m,
-        }
+        bytewise::sizes(self)
     }
 
     fn check(&self, e: usize, given: &[u8], out: &mut [u8]) -> Result<(), Refusal> {

@@ -17,7 +17,8 @@ impl Copies {
     pub fn new(m: usize) -> Result<Copies, Refusal>
         ensures { Makes (admitted 1 m) (λ c. c.m ≡ m) result }
     {
-        if m < 1 || m > 4 {
+        let sizes = Sizes { k: 1, m };
+        if !sizes.is_admitted() {
             return Err(Refusal::Sizes);
         }
         Ok(Copies { m })
@@ -48,17 +49,19 @@ impl Bytewise for Copies {
     }
 }
 
+// Handed on call by call, as for each of the three codes: no impl for all byte-wise codes at once is allowed, since the trait
+// is of a lower crate, which knows no bytes.
 impl Code for Copies {
-    ghost coding = { λ s. coded (copy_recipe s.m) };
+    ghost coding = { λ s. coded (⟦<Copies as Bytewise>⟧.recipe s) };
 
-    ghost limits = { λ s. limited (copy_recipe s.m) (lit≤ tt, lit≤ tt) s.limits };
+    ghost limits = { ⟦<Copies as Bytewise>⟧.limits };
 
-    ghost determines = { λ s. determines (copy_recipe s.m) (copy_works s.m).recovers };
+    ghost determines = { λ s. determines (⟦<Copies as Bytewise>⟧.recipe s) (⟦<Copies as Bytewise>⟧.works s).recovers };
 
-    ghost completes = { λ s. completes (copy_recipe s.m) (copy_works s.m).recovers };
+    ghost completes = { λ s. completes (⟦<Copies as Bytewise>⟧.recipe s) (⟦<Copies as Bytewise>⟧.works s).recovers };
 
     fn sizes(&self) -> Sizes {
-        Sizes { k: 1, m: self.m }
+        bytewise::sizes(self)
     }
 
     fn check(&self, e: usize, given: &[u8], out: &mut [u8]) -> Result<(), Refusal> {

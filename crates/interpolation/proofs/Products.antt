@@ -1,8 +1,9 @@
 -- Products over the chosen numbers below a bound. Assumes nothing.
-use Rattle.std.proofs.Common.{◌≡◌, ℕ, zero, suc, ◌+◌, ◌<◌, Bool, true, false, cond, not, ◌&&◌, eqb, sym, refl, ap, ◌∙◌, ap₂, ⊎_elim, add-one, arith, lit<}
-use Rattle.std.proofs.lemmas.Bool.{cases_eq, cond-true, cond-false, eq-eqb, ne_eqb, and_right, not_from_true}
+use Rattle.std.proofs.Common.{◌≡◌, ℕ, zero, suc, ◌+◌, ◌<◌, Bool, true, false, cond, not, ◌&&◌, ◌||◌, eqb, sym, refl, ap, ◌∙◌, ap₂, ⊎_elim, add-one, arith, lit<}
+use Rattle.std.proofs.lemmas.Bool.{cases_eq, cond-true, cond-false, eq-eqb, eqb-true, ne_eqb, and_right, not_from_true, false≢true}
+use Rattle.std.proofs.Math.Bool.{and-true}
 use Rattle.block.specs.Count.{count}
-use Rattle.block.proofs.Counts.{count_same}
+use Rattle.block.proofs.Counts.{count_same, count_one, count_or}
 use Rattle.field.specs.Field.{mul}
 use Rattle.field.specs.Sums.{multiplied}
 use Rattle.field.proofs.Laws.{mul_comm, mul_assoc, mul_zero, zero_mul}
@@ -15,12 +16,8 @@ without chosen a j = chosen j && not (eqb j a)
 pub without_itself : (chosen : ℕ → Bool) (a j : ℕ) → j ≡ a → without chosen a j ≡ false
 without_itself chosen a j e = and_right (chosen j) _ (not_from_true (eqb j a) (eq-eqb j a e))
 
-and_true : (b : Bool) → (b && true) ≡ b
-and_true true = refl
-and_true false = refl
-
 pub without_other : (chosen : ℕ → Bool) (a j : ℕ) → (j ≡ a → ⊥) → without chosen a j ≡ chosen j
-without_other chosen a j ne = ap (λ b. chosen j && not b) (ne_eqb j a ne) ∙ and_true (chosen j)
+without_other chosen a j ne = ap (λ b. chosen j && not b) (ne_eqb j a ne) ∙ and-true (chosen j)
 
 -- one number more, chosen or not
 pub multiplied_more : (chosen : ℕ → Bool) (f : ℕ → ℕ) (n : ℕ) → chosen n ≡ true → multiplied chosen f (n + 1) ≡ mul (multiplied chosen f n) (f n)
@@ -76,16 +73,10 @@ module _ (chosen : ℕ → Bool) (a : ℕ) (t : chosen a ≡ true) where
       (cases_eq n a)
 
   pub count_out : (n : ℕ) → a < n → count chosen n ≡ suc (count (without chosen a) n)
-  count_out zero l = absurd (omega arith)
-  count_out (suc n) l =
-      ⊎_elim
-      (λ (e : n ≡ a). cond-true (chosen n) _ _ (ap chosen e ∙ t)
-      ∙ ap suc (count_same chosen (without chosen a) n (λ i k. sym (without_other chosen a i (λ q. omega arith)))
-      ∙ sym (cond-false (without chosen a n) _ _ (without_itself chosen a n e))))
-      (λ (ne : n ≡ a → ⊥).
-      let below : count chosen n ≡ suc (count (without chosen a) n) = count_out n (omega arith) in
-      (elim (chosen n) as (λ b. cond b (suc (count chosen n)) (count chosen n)
-      ≡ suc (cond b (suc (count (without chosen a) n)) (count (without chosen a) n)))
-      [ true ↦ ap suc below | false ↦ below ])
-      ∙ ap (λ b. suc (cond b (suc (count (without chosen a) n)) (count (without chosen a) n))) (sym (without_other chosen a n ne)))
-      (cases_eq n a)
+  count_out n l =
+      count_same chosen (λ i. eqb i a || without chosen a i) n
+      (λ i k. ⊎_elim
+      (λ (e : i ≡ a). ap chosen e ∙ t ∙ sym (ap (λ b. b || without chosen a i) (eq-eqb i a e)))
+      (λ (ne : i ≡ a → ⊥). sym (ap (λ b. b || without chosen a i) (ne_eqb i a ne) ∙ without_other chosen a i ne)) (cases_eq i a))
+      ∙ count_or (λ i. eqb i a) (without chosen a) (λ i e w. false≢true (sym (without_itself chosen a i (eqb-true i a e)) ∙ w)) n
+      ∙ ap (λ x. x + count (without chosen a) n) (count_one a n l) ∙ omega arith

@@ -7,6 +7,7 @@ use Rattle.field.specs.Sums.{summed}
 use Rattle.field.proofs.Laws.{mul_zero}
 use Rattle.field.proofs.Linear.{mul_xor_right}
 use Rattle.block.specs.Count.{count}
+use Rattle.block.proofs.Counts.{count_some}
 use Rattle.recovery.specs.Rules.{every}
 
 module _ (chosen : ℕ → Bool) where
@@ -35,13 +36,17 @@ module _ (chosen : ℕ → Bool) where
       elim (chosen n) as (λ b. cond b (bit_xor (summed chosen f n) (f n)) (summed chosen f n) < 256)
       [ true ↦ xor_lt 8 _ _ ih (h n (omega arith)) | false ↦ ih ]
 
+  pub summed_zero : (f : ℕ → ℕ) (n : ℕ) → ((i : ℕ) → i < n → chosen i ≡ true → f i ≡ 0) → summed chosen f n ≡ 0
+  unfolding summed
+  summed_zero f zero h = refl
+  summed_zero f (suc n) h =
+      let ih = summed_zero f n (λ i l. h i (omega arith)) in
+      (elim (chosen n) as (λ b. (b ≡ true → f n ≡ 0) → cond b (bit_xor (summed chosen f n) (f n)) (summed chosen f n) ≡ 0)
+      [ true ↦ λ e. ap₂ bit_xor ih (e refl) | false ↦ λ e. ih ]) (h n (omega arith))
+
   -- a sum of nothing
   pub summed_none : (f : ℕ → ℕ) (n : ℕ) → count chosen n ≡ 0 → summed chosen f n ≡ 0
-  unfolding summed
-  summed_none f zero c = refl
-  summed_none f (suc n) c =
-      (elim (chosen n) as (λ b. cond b (suc (count chosen n)) (count chosen n) ≡ 0 → cond b (bit_xor (summed chosen f n) (f n)) (summed chosen f n) ≡ 0)
-      [ true ↦ λ d. absurd (omega arith) | false ↦ λ d. summed_none f n d ]) c
+  summed_none f n c = summed_zero f n (λ i l t. absurd (omega (arith, count_some chosen n i l t)))
 
   -- a sum of one
   pub summed_one : (f : ℕ → ℕ) (x n : ℕ) → count chosen n ≡ 1 → ((i : ℕ) → i < n → chosen i ≡ true → f i ≡ x) → summed chosen f n ≡ x
@@ -52,14 +57,6 @@ module _ (chosen : ℕ → Bool) where
         | true ↦ λ e d. ap₂ bit_xor (summed_none f n (omega arith)) (e refl)
         | false ↦ λ e d. summed_one f x n d (λ i l. h i (omega arith))
       ]) (h n (omega arith)) c
-
-  pub summed_zero : (f : ℕ → ℕ) (n : ℕ) → ((i : ℕ) → i < n → chosen i ≡ true → f i ≡ 0) → summed chosen f n ≡ 0
-  unfolding summed
-  summed_zero f zero h = refl
-  summed_zero f (suc n) h =
-      let ih = summed_zero f n (λ i l. h i (omega arith)) in
-      (elim (chosen n) as (λ b. (b ≡ true → f n ≡ 0) → cond b (bit_xor (summed chosen f n) (f n)) (summed chosen f n) ≡ 0)
-      [ true ↦ λ e. ap₂ bit_xor ih (e refl) | false ↦ λ e. ih ]) (h n (omega arith))
 
   -- where all terms but one are 0
   pub summed_at : (f : ℕ → ℕ) (n a : ℕ) → a < n → chosen a ≡ true

@@ -1,2 +1,3 @@
 pub mod Turning
 pub mod First
+pub mod Stopping

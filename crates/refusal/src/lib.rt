@@ -11,7 +11,7 @@ pub mod kind;
 use kind::Refusal;
 
 impl Refusal {
-    // The number by which callers know the refusal.
+    // The number by which callers know the refusal. Written out, since a case that carries values has no number of its own.
     pub fn number(&self) -> u8
         ensures { result ≡ number_of self.now }
     {

@@ -1,9 +1,11 @@
-use Rattle.std.proofs.Common.{◌≡◌, ℕ, ◌<◌, false, ◌&&◌, ltb, get_or}
-use Rattle.block.specs.Count.{count}
-use Rattle.code.specs.Calls.{marks_held}
+use Rattle.std.proofs.Common.{◌≡◌, ◌≤◌, length}
+use Rattle.std.specs.Iterator.Adapters.{filter_source, take_count, take_source}
+use Rattle.bytewise.proofs.Steps.{MarksLeft}
 use Rattle.bytewise.proofs.choose.Given as goal
 
 abbrev pub invariant-loop-i : goal.invariant-loop-i
-invariant-loop-i l =
-    (l.seen ≡ count (marks_held l.marks) l.i)
-    × ((i : ℕ) → i < l.i → get_or l.chosen i false ≡ marks_held l.marks i && ltb (count (marks_held l.marks) i) l.k)
+invariant-loop-i l = record {
+  room : length l.chosen ≡ 16;
+  few : length l.marks ≤ 16;
+  left : MarksLeft l.marks l.k (take_count l.i-iterator) l.chosen (filter_source (take_source l.i-iterator));
+}
