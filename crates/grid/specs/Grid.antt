@@ -45,6 +45,9 @@ written g s n p b = record { shape = g.shape; state = g.state; cell = λ t x y. 
 abbrev pub dropped : Grid → ℕ → Grid
 dropped g n = record { shape = g.shape; state = g.state; cell = λ t x y. cond (x == n) None (g.cell t x y) }
 
+abbrev pub dropped_in : Grid → ℕ → ℕ → Grid
+dropped_in g s n = record { shape = g.shape; state = g.state; cell = λ t x y. cond (t == s && x == n) None (g.cell t x y) }
+
 abbrev pub cleared : Grid → ℕ → Grid
 cleared g s = record { shape = g.shape; state = λ t. cond (t == s) Empty (g.state t); cell = λ t x y. cond (t == s) None (g.cell t x y) }
 

@@ -1,7 +1,7 @@
 -- Parts of an image after a write of some bytes in a row. Assumes nothing.
-use Rattle.std.proofs.Common.{◌≡◌, ℕ, ◌+◌, ◌-◌, ◌<◌, ◌≤◌, true, false, ◌&&◌, ltb, leb, ◌⊎◌, List, length, get_or, take, drop, replicate, sym, ap, ◌∙◌, subst, ⊎_elim, arith, length-drop}
+use Rattle.std.proofs.Common.{◌≡◌, ℕ, ◌+◌, ◌-◌, ◌<◌, ◌≤◌, ◌⊎◌, List, length, get_or, take, drop, replicate, sym, ◌∙◌, subst, ⊎_elim, arith, length-drop}
 use Rattle.std.proofs.lemmas.List.{get_or-take, get_or-drop, get_or_default, get_or-replicate, length-replicate, same_lists, length-take-le}
-use Rattle.std.proofs.lemmas.Bool.{cond-true, cond-false, and_from, and_left, and_right, le-leb, lt-leb, lt-ltb, le-ltb}
+use Rattle.std.proofs.lemmas.Bool.Decides.{nat_tests}
 use Rattle.image_format.specs.Image.{Over, Wiped}
 
 length_part : (xs : List ℕ) (b m : ℕ) → b + m ≤ length xs → length (take m (drop b xs)) ≡ m
@@ -16,12 +16,6 @@ part_is ys new b m l n f = same_lists (take m (drop b ys)) new (length_part ys b
   byte : (k d : ℕ) → k < m → get_or (take m (drop b ys)) k d ≡ get_or new k d
   byte k d k< = get_or_part ys b m k d l k< ∙ f k k< ∙ get_or_default new k 0 d (omega arith)
 
-within : (a b k : ℕ) → a ≤ k → k < b → (leb a k && ltb k b) ≡ true
-within a b k l r = and_from _ _ (le-leb a k l) (lt-ltb k b r)
-
-outside : (a b c m k : ℕ) → (c + m ≤ a) ⊎ (b ≤ c) → k < m → (leb a (c + k) && ltb (c + k) b) ≡ false
-outside a b c m k apart k< = ⊎_elim (λ (q : c + m ≤ a). and_left _ _ (lt-leb a (c + k) (omega arith))) (λ (q : b ≤ c). and_right _ _ (le-ltb (c + k) b (omega arith))) apart
-
 module _ (xs ys : List ℕ) (same : length ys ≡ length xs) where
   part_same : (b m : ℕ) → b + m ≤ length xs → ((k : ℕ) → k < m → get_or ys (b + k) 0 ≡ get_or xs (b + k) 0) → take m (drop b ys) ≡ take m (drop b xs)
   part_same b m l f = part_is ys (take m (drop b xs)) b m (omega arith) (length_part xs b m l) (λ k k<. f k k< ∙ sym (get_or_part xs b m k 0 l k<))
@@ -32,22 +26,20 @@ module _ (xs ys : List ℕ) (same : length ys ≡ length xs) where
 
     -- the new bytes are there
     pub over_there : take w (drop a ys) ≡ new
-    over_there = part_is ys new a w (omega arith) n (λ k k<.
-        let q : a + k - a ≡ k = omega arith in
-        o fits (a + k) ∙ cond-true _ (get_or new (a + k - a) 0) (get_or xs (a + k) 0) (within a (a + length new) (a + k) (omega arith) (omega arith)) ∙ ap (λ (m : ℕ). get_or new m 0) q)
+    over_there = part_is ys new a w (omega arith) n (λ k k<. let q : a + k - a ≡ k = omega arith in let e = o fits (a + k) in grind (arith, nat_tests))
 
     -- and all else is as it was
     pub over_elsewhere : (b m : ℕ) → b + m ≤ length xs → (b + m ≤ a) ⊎ (a + w ≤ b) → take m (drop b ys) ≡ take m (drop b xs)
-    over_elsewhere b m lm apart = part_same b m lm (λ k k<. o fits (b + k) ∙ cond-false _ (get_or new (b + k - a) 0) (get_or xs (b + k) 0) (outside a (a + length new) b m k (subst (λ (j : ℕ). (b + m ≤ a) ⊎ (a + j ≤ b)) (sym n) apart) k<))
+    over_elsewhere b m lm apart = part_same b m lm (λ k k<. let e = o fits (b + k) in ⊎_elim (λ (q : b + m ≤ a). grind (arith, nat_tests)) (λ (q : a + w ≤ b). grind (arith, nat_tests)) apart)
 
   module _ (a b : ℕ) (o : Wiped xs ys a b) where
     -- zeros are there
     pub wiped_there : (c m : ℕ) → c + m ≤ length xs → a ≤ c → c + m ≤ b → take m (drop c ys) ≡ replicate m 0
-    wiped_there c m l i j = part_is ys (replicate m 0) c m (omega arith) (length-replicate m 0) (λ k k<. o (c + k) ∙ cond-true _ 0 (get_or xs (c + k) 0) (within a b (c + k) (omega arith) (omega arith)) ∙ sym (get_or-replicate m k 0 0 k<))
+    wiped_there c m l i j = part_is ys (replicate m 0) c m (omega arith) (length-replicate m 0) (λ k k<. let e = o (c + k) in let z : get_or ys (c + k) 0 ≡ 0 = grind (arith, nat_tests) in z ∙ sym (get_or-replicate m k 0 0 k<))
 
     -- and all else is as it was
     pub wiped_elsewhere : (c m : ℕ) → c + m ≤ length xs → (c + m ≤ a) ⊎ (b ≤ c) → take m (drop c ys) ≡ take m (drop c xs)
-    wiped_elsewhere c m l apart = part_same c m l (λ k k<. o (c + k) ∙ cond-false _ 0 (get_or xs (c + k) 0) (outside a b c m k apart k<))
+    wiped_elsewhere c m l apart = part_same c m l (λ k k<. let e = o (c + k) in ⊎_elim (λ (q : c + m ≤ a). grind (arith, nat_tests)) (λ (q : b ≤ c). grind (arith, nat_tests)) apart)
 
 -- a write, by other names for its place and its bytes
 pub over_as : (xs ys bytes new : List ℕ) (a b : ℕ) → a ≡ b → bytes ≡ new → Over xs ys a bytes → Over xs ys b new

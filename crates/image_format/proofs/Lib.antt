@@ -1,5 +1,5 @@
 pub mod Image
 pub mod Held
 pub mod Writes
-pub mod Without
 pub mod Steps
+pub mod Prop

@@ -1,5 +1,6 @@
 -- What an image holds after a head is written, a block is put, or records are wiped. Assumes nothing.
-use Rattle.std.proofs.Common.{◌≡◌, ℕ, ◌+◌, ◌*◌, ◌<◌, ◌≤◌, Bool, true, false, cond, ◌&&◌, eqb, ltb, leb, ◌⊎◌, List, length, Some, None, refl, ◌∙◌, inl, inr, ⊎_elim, arith}
+use Rattle.std.proofs.Common.{◌≡◌, ℕ, ◌+◌, ◌-◌, ◌*◌, ◌<◌, ◌≤◌, Bool, true, false, cond, ◌&&◌, eqb, ltb, leb, ◌⊎◌, List, length, take, drop, replicate, Some, None, refl, ◌∙◌, inl, inr, ⊎_elim, arith}
+use Rattle.std.proofs.lemmas.List.{length-replicate, take-replicate, drop-replicate}
 use Rattle.std.proofs.lemmas.Bool.{cases_order, and_parts, and_cases, leb-true, leb-false, ltb-true, ltb-false}
 use Rattle.store.specs.declared.kinds.Shape.{Shape}
 use Rattle.store.specs.declared.kinds.State.{State}
@@ -15,6 +16,9 @@ head_size : (z : State) → length (head_of z) ≡ 8
 head_size Empty = refl
 head_size Open = refl
 head_size Sealed = refl
+
+zeros_there : (n a m : ℕ) → a + m ≤ n → ◌≡◌ {A = List ℕ} (take m (drop a (replicate n 0))) (replicate m 0)
+zeros_there n a m l = rw drop-replicate (take-replicate m (n - a) 0 (omega arith))
 
 order : (i j : ℕ) → (i ≡ j → ⊥) → (i < j) ⊎ (j < i)
 order i j e = ⊎_elim (λ q. absurd (e q)) (λ q. q) (cases_order i j)
@@ -66,11 +70,11 @@ module _ (h : Shape) (xs ys : List ℕ) (marks : ℕ → State) (row : Row) (k :
     past = k.past;
   }
 
--- everything wiped
-pub new_held : (h : Shape) (xs ys : List ℕ) → length ys ≡ length xs → length xs ≡ size h → Wiped xs ys 0 (length xs) → Holds h ys (λ t. Empty) (λ i. None)
-new_held h xs ys same l o = record {
-  length = same ∙ l;
-  heads = λ t t<. wiped_there xs ys same 0 (length xs) o (8 * t) 8 (omega arith) (omega arith) (omega arith);
-  records = λ i i<. wiped_there xs ys same 0 (length xs) o (start h i) 72 (omega arith) (omega arith) (omega arith);
+-- nothing but zeros
+pub zeros_held : (h : Shape) → Holds h (replicate (size h) 0) (λ t. Empty) (λ i. None)
+zeros_held h = record {
+  length = length-replicate (size h) 0;
+  heads = λ t t<. zeros_there (size h) (8 * t) 8 (omega arith);
+  records = λ i i<. zeros_there (size h) (start h i) 72 (omega arith);
   past = λ t _. refl;
 }

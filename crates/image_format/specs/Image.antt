@@ -68,7 +68,3 @@ pub record Holds (h : Shape) (img : List ℕ) (marks : ℕ → State) (row : Row
   pub records : (i : ℕ) → i < total h → record_at h img i ≡ record_of h i (row i)
   -- past the heads there is no slot in use
   pub past : (s : ℕ) → h.slots ≤ s → marks s ≡ Empty
-
--- a row without the cells of a node, in the slots below s
-abbrev pub without : Shape → ℕ → ℕ → Row → Row
-without h s n row i = cond (nat_lt (i / h.places / h.nodes) s && i / h.places % h.nodes == n) None (row i)

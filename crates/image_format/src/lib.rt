@@ -1,21 +1,38 @@
 // A byte image of a bare store: what the block file and the image reader share.
 #![tactic(auto)]
 
-ghost use Rattle.std.specs.Prelude.{◌≡◌, ◌∷◌, length, IfSome, Some, None, MatchOption};
-ghost use Rattle.image_format.specs.Image.{Over, Wiped, head_of, cell_from};
+ghost use Rattle.std.specs.Prelude.{◌≡◌, ◌+◌, ◌*◌, ◌<◌, ◌≤◌, ◌∷◌, length, IfSome, Some, None, MatchOption, slice_index};
+ghost use Rattle.store.specs.Meaning.{Limits};
+ghost use Rattle.grid.specs.Index.{index};
+ghost use Rattle.image_format.specs.Image.{Over, Wiped, start, size, head_of, cell_from, state_from};
 
-use block::wipe;
-use store::kinds::State;
+use store::kinds::{Shape, State};
 
 // The head of a slot.
 pub fn head_bytes(state: State) -> [u8; 8]
     ensures { result ≡ head_of state }
 {
-    match state {
-        State::Empty => [0; 8],
-        State::Open => [1, 0, 0, 0, 0, 0, 0, 0],
-        State::Sealed => [2, 0, 0, 0, 0, 0, 0, 0],
-    }
+    [state.number(), 0, 0, 0, 0, 0, 0, 0]
+}
+
+// The state of a slot, which the first byte of its head tells; a byte that the format does not have counts as empty.
+pub fn state_at(image: &[u8], slot: usize) -> State
+    ensures { result ≡ state_from (slice_index image.now (8 * slot)) }
+{
+    slot.checked_mul(8)
+        .and_then(|at| image.get(at))
+        .and_then(|byte| State::try_from(*byte).ok())
+        .unwrap_or(State::Empty)
+}
+
+// Where the record of a cell begins.
+pub fn start_of(shape: Shape, slot: usize, node: usize, place: usize) -> usize
+    requires limits { Limits shape }
+    requires inside { (slot < shape.slots) × (node < shape.nodes) × (place < shape.places) }
+    ensures at { result ≡ start shape (index shape slot node place) }
+    ensures within { result + 72 ≤ size shape }
+{
+    8 * shape.slots + 72 * grid::index_of(shape, slot, node, place)
 }
 
 // The record of a present cell.
@@ -24,11 +41,8 @@ pub fn present_record(slot: u8, node: u8, place: u8, block: &[u8]) -> [u8; 72]
     ensures { result ≡ 1 ∷ slot ∷ node ∷ place ∷ 0 ∷ 0 ∷ 0 ∷ 0 ∷ block.now }
 {
     let mut bytes = [0; 72];
-    bytes[0] = 1;
-    bytes[1] = slot;
-    bytes[2] = node;
-    bytes[3] = place;
-    bytes[8..72].copy_from_slice(block);
+    bytes[..4].copy_from_slice(&[1, slot, node, place]);
+    bytes[8..].copy_from_slice(block);
     bytes
 }
 
@@ -47,7 +61,7 @@ pub fn wipe_bytes(image: &mut [u8], from: usize, to: usize)
 {
     let end = to.min(image.len());
     if from < end {
-        wipe(&mut image[from..end]);
+        image[from..end].fill(0);
     }
 }
 

@@ -19,7 +19,7 @@ state_of_as Open d c = refl
 state_of_as Sealed d c = refl
 
 used : (z : State) (d : Nodes) (c : Cells) → z ≡ Sealed → c ≡ cells_of (slot_as z d c)
-used Empty d c e = let w : ◌≡◌ {A = ℕ} 0 1 = cc in absurd (omega arith)
+used Empty d c e = cc
 used Open d c e = refl
 used Sealed d c e = refl
 

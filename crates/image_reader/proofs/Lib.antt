@@ -1,5 +1,5 @@
 pub mod Below
-pub mod Sizes
+pub mod Heads
 pub mod Records
 pub mod Passes
 pub mod Checked

@@ -1,12 +1,16 @@
 -- Heads and records that pass their tests are those of the format, and those of the format pass. Assumes nothing.
-use Rattle.std.proofs.Common.{◌≡◌, ℕ, zero, suc, ◌+◌, ◌≤◌, true, eqb, leb, List, [], ◌∷◌, length, get_or, drop, replicate, Some, None, sym, refl, ap, ◌∙◌, arith}
-use Rattle.std.proofs.lemmas.List.{ext_get_or, get_or-replicate}
-use Rattle.std.proofs.lemmas.Bool.{and_parts, and_from, eqb-true, eq-eqb, ne_eqb, leb-true, cond-true, cond-false}
+use Rattle.std.proofs.Common.{◌≡◌, ℕ, zero, suc, ◌+◌, ◌≤◌, true, eqb, leb, List, [], ◌∷◌, length, get_or, take, drop, replicate, Some, sym, refl, ap, ◌∙◌, arith}
+use Rattle.std.proofs.lemmas.List.{drop-take, drop-drop, ext_get_or, get_or-replicate}
+use Rattle.std.proofs.lemmas.Bool.{and_parts, eqb-true, leb-true, cond-true}
+use Rattle.std.proofs.lemmas.Bool.Decides.{nat_tests}
 use Rattle.block.specs.Block.{Block}
+use Rattle.store.specs.declared.kinds.Shape.{Shape}
 use Rattle.store.specs.declared.kinds.State.{State}
 use Rattle.store.specs.declared.kinds.State.TheVariants.{Empty, Open, Sealed}
-use Rattle.image_format.specs.Image.{head_of, state_from, cell_from}
+use Rattle.grid.specs.Index.{index}
+use Rattle.image_format.specs.Image.{start, record_at, head_of, state_from, cell_from}
 use Rattle.image_reader.specs.Damage.{all_below, zeros, good_head, headed}
+use Rattle.image_reader.specs.Reader.{block_part}
 use Rattle.image_reader.proofs.Below.{all_at}
 
 -- a state's number and seven zeros
@@ -35,6 +39,10 @@ good_head_of Open = refl
 good_head_of Sealed = refl
 
 -- a record with the head of a present cell
+eight : (s n p a b c d x y z w : ℕ) (rest : List ℕ) → headed s n p (a ∷ b ∷ c ∷ d ∷ x ∷ y ∷ z ∷ w ∷ rest) ≡ true
+    → a ∷ b ∷ c ∷ d ∷ x ∷ y ∷ z ∷ w ∷ rest ≡ 1 ∷ s ∷ n ∷ p ∷ 0 ∷ 0 ∷ 0 ∷ 0 ∷ rest
+eight s n p a b c d x y z w rest e = grind (arith, nat_tests)
+
 pub record_headed : (s n p : ℕ) (bytes : List ℕ) → length bytes ≡ 72 → headed s n p bytes ≡ true
     → bytes ≡ 1 ∷ s ∷ n ∷ p ∷ 0 ∷ 0 ∷ 0 ∷ 0 ∷ drop 8 bytes
 record_headed s n p [] len e = absurd (omega arith)
@@ -45,25 +53,10 @@ record_headed s n p (a ∷ b ∷ c ∷ d ∷ []) len e = absurd (omega arith)
 record_headed s n p (a ∷ b ∷ c ∷ d ∷ x ∷ []) len e = absurd (omega arith)
 record_headed s n p (a ∷ b ∷ c ∷ d ∷ x ∷ y ∷ []) len e = absurd (omega arith)
 record_headed s n p (a ∷ b ∷ c ∷ d ∷ x ∷ y ∷ z ∷ []) len e = absurd (omega arith)
-record_headed s n p (a ∷ b ∷ c ∷ d ∷ x ∷ y ∷ z ∷ w ∷ rest) len e =
-    let p0 = and_parts (eqb a 1) _ e in
-    let p1 = and_parts (eqb b s) _ p0.1 in
-    let p2 = and_parts (eqb c n) _ p1.1 in
-    let p3 = and_parts (eqb d p) _ p2.1 in
-    let zs = all_at (λ j. eqb (get_or (a ∷ b ∷ c ∷ d ∷ x ∷ y ∷ z ∷ w ∷ rest) (4 + j) 0) 0) 4 p3.1 in
-    let e0 = eqb-true a 1 p0.0 in
-    let e1 = eqb-true b s p1.0 in
-    let e2 = eqb-true c n p2.0 in
-    let e3 = eqb-true d p p3.0 in
-    let e4 = eqb-true x 0 (zs 0 (omega arith)) in
-    let e5 = eqb-true y 0 (zs 1 (omega arith)) in
-    let e6 = eqb-true z 0 (zs 2 (omega arith)) in
-    let e7 = eqb-true w 0 (zs 3 (omega arith)) in
-    λ i. e0 i ∷ e1 i ∷ e2 i ∷ e3 i ∷ e4 i ∷ e5 i ∷ e6 i ∷ e7 i ∷ rest
+record_headed s n p (a ∷ b ∷ c ∷ d ∷ x ∷ y ∷ z ∷ w ∷ rest) len e = eight s n p a b c d x y z w rest e
 
 pub headed_record : (s n p a b c : ℕ) (v : Block) → a ≡ s → b ≡ n → c ≡ p → headed s n p (1 ∷ a ∷ b ∷ c ∷ 0 ∷ 0 ∷ 0 ∷ 0 ∷ v) ≡ true
-headed_record s n p a b c v ea eb ec =
-    and_from (eqb a s) _ (eq-eqb a s ea) (and_from (eqb b n) _ (eq-eqb b n eb) (and_from (eqb c p) _ (eq-eqb c p ec) refl))
+headed_record s n p a b c v ea eb ec = grind (arith, nat_tests)
 
 -- a record of zeros
 pub record_blank : (bytes : List ℕ) → length bytes ≡ 72 → zeros bytes ≡ true → bytes ≡ replicate 72 0
@@ -75,7 +68,7 @@ record_blank bytes len e =
 pub shows_block : (s n p : ℕ) (bytes : List ℕ) → headed s n p bytes ≡ true → cell_from bytes ≡ Some (drop 8 bytes)
 shows_block s n p bytes e = cond-true (eqb (get_or bytes 0 0) 1) _ _ (and_parts (eqb (get_or bytes 0 0) 1) _ e).0
 
-pub shows_nothing : (bytes : List ℕ) → length bytes ≡ 72 → zeros bytes ≡ true → cell_from bytes ≡ None
-shows_nothing bytes len e =
-    let z = eqb-true (get_or bytes 0 0) 0 (all_at (λ j. eqb (get_or bytes j 0) 0) (length bytes) e 0 (omega arith)) in
-    cond-false (eqb (get_or bytes 0 0) 1) _ _ (ne_eqb (get_or bytes 0 0) 1 (λ q. omega arith))
+-- the block behind the head of a record
+pub part_of : (h : Shape) (img : List ℕ) (s n p : ℕ) → drop 8 (record_at h img (index h s n p)) ≡ block_part h img s n p
+part_of h img s n p =
+    drop-take 8 64 (drop (start h (index h s n p)) img) ∙ ap (take 64) (drop-drop 8 (start h (index h s n p)) img)

@@ -53,11 +53,17 @@ bad_cell h img s n p =
     (not (zeros (record_at h img (index h s n p))) || (is_sealed (marks_of h img s) && some_below (present h img s n) h.places))
 
 -- the lowest head that breaks the rules, or else the lowest record
+abbrev pub head_damage_at : List ℕ → ℕ → Option Refusal
+head_damage_at img s = refuse (not (good_head (head_at img s))) (Damaged (8 * s)) None
+
 abbrev pub head_damage : Shape → List ℕ → Option Refusal
-head_damage h img = first (λ s. refuse (not (good_head (head_at img s))) (Damaged (8 * s)) None) h.slots
+head_damage h img = first (head_damage_at img) h.slots
+
+abbrev pub record_damage : Shape → List ℕ → ℕ → ℕ → ℕ → Option Refusal
+record_damage h img s n p = refuse (bad_cell h img s n p) (Damaged (start h (index h s n p))) None
 
 abbrev pub node_damage : Shape → List ℕ → ℕ → ℕ → Option Refusal
-node_damage h img s n = first (λ p. refuse (bad_cell h img s n p) (Damaged (start h (index h s n p))) None) h.places
+node_damage h img s n = first (record_damage h img s n) h.places
 
 abbrev pub slot_damage : Shape → List ℕ → ℕ → Option Refusal
 slot_damage h img s = first (node_damage h img s) h.nodes

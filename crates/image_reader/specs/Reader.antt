@@ -19,6 +19,7 @@ image_of r = r.laid.bytes.now
 abbrev pub grid_of : ImageReader → Grid
 grid_of r = grid_at (shape_of r) (image_of r)
 
+-- every reader is, by its type
 abbrev pub SoundReader : ImageReader → Type 0
 SoundReader r = SoundImage (shape_of r) (image_of r)
 

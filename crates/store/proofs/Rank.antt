@@ -1,5 +1,5 @@
 -- A rank's file, read place by place. Assumes nothing.
-use Rattle.std.proofs.Common.{◌≡◌, ℕ, ◌+◌, ◌*◌, ◌<◌, ◌≤◌, not, List, [], ◌++◌, length, is_some, IfErr, Some, None, Ok, Err, Option, Result, unwrap_or, sym, refl, ap, ◌∙◌, subst, add-one, arith}
+use Rattle.std.proofs.Common.{◌≡◌, ℕ, ◌+◌, ◌-◌, ◌*◌, ◌<◌, ◌≤◌, not, List, [], ◌++◌, length, take, drop, is_some, IfErr, Some, None, Ok, Err, Option, Result, unwrap_or, sym, refl, ap, ◌∙◌, subst, add-one, arith, length-drop, length-take}
 use borrow.Rule.Slice.PartMut.{put_mid}
 use Rattle.std.proofs.lemmas.List.{take_all}
 use Rattle.std.proofs.lemmas.Slice.{take-put_mid}
@@ -19,15 +19,23 @@ use Rattle.store.proofs.Accepted.{within_shape}
 -- where a cell is not refused its block is there
 present : (o : Option Block) (f : Refusal) (old : List ℕ) → refuse (not (is_some o)) f None ≡ None → unwrap_or o old ≡ unwrap_or o []
 present (Some b) f old e = refl
-present None f old e = let z : ◌≡◌ {A = ℕ} 0 1 = cc in absurd (omega arith)
+present None f old e = cc
 
 given_block : (x : Slot) (n p : ℕ) (old : List ℕ) → cell_refusal x n p ≡ None → unwrap_or (cells_of x n p) old ≡ unwrap_or (cells_of x n p) []
-given_block empty n p old e = let z : ◌≡◌ {A = ℕ} 0 1 = cc in absurd (omega arith)
+given_block empty n p old e = cc
 given_block (opened c) n p old e = present (c n p) (Missing n p) old e
 given_block (sealed d c) n p old e = present (c n p) (Missing n p) old e
 
+-- a turn of the loop: what the store answered for the part of the buffer that is the place's
 module _ (m : Meaning) (s n k : ℕ) (s< : s < m.shape.slots) (n< : n < m.shape.nodes) (k< : k < m.shape.places)
-    (old : List ℕ) (size : length old ≡ 64) (r : Result Unit Refusal) (new : List ℕ) (answer : GetAnswer m s n k old r new) where
+    (out : List ℕ) (room : 64 * m.shape.places ≤ length out) (r : Result Unit Refusal) (new : List ℕ)
+    (answer : GetAnswer m s n k (take (64 * k + 64 - 64 * k) (drop (64 * k) out)) r new) where
+  abbrev old : List ℕ
+  old = take (64 * k + 64 - 64 * k) (drop (64 * k) out)
+
+  size : length old ≡ 64
+  size = simp (length-take, length-drop) (omega arith)
+
   only_cell : get_refusal m s n k (length old) ≡ cell_refusal (m.slot s) n k
   only_cell = within_shape m s s< n k n< k< (length old) size (cell_refusal (m.slot s) n k)
 
@@ -38,9 +46,8 @@ module _ (m : Meaning) (s n k : ℕ) (s< : s < m.shape.slots) (n< : n < m.shape.
       first_found (cell_refusal (m.slot s) n) k m.shape.places none (ap is_some here) k< ∙ here
 
   -- one place more
-  pub goes_on : r ≡ Ok tt → (w : ℕ) (out : List ℕ) → 64 * k ≤ length out → length new ≡ 64 → Gathered m s n k out
-      → Gathered m s n (k + 1) (put_mid (64 * k) w out new)
-  goes_on e w out room long before =
+  pub goes_on : r ≡ Ok tt → length new ≡ length old → Gathered m s n k out → Gathered m s n (k + 1) (put_mid (64 * k) (64 * k + 64 - 64 * k) out new)
+  goes_on e long before =
       let c = cells_of (m.slot s) in
       let allowed = outcome_done (get_refusal m s n k (length old)) tt tt (sym answer.answer ∙ e) in
       let none = sym only_cell ∙ allowed in
@@ -48,7 +55,7 @@ module _ (m : Meaning) (s n k : ℕ) (s< : s < m.shape.slots) (n< : n < m.shape.
       let more : gathered c n (k + 1) ≡ gathered c n k ++ unwrap_or (c n k) [] = rw add-one in
       record {
         none = first_more (cell_refusal (m.slot s) n) k before.none none;
-        bytes = take-put_mid (64 * k) w out new (64 * (k + 1)) (omega arith) room ∙ ap (λ x. x ++ new) before.bytes
+        bytes = take-put_mid (64 * k) (64 * k + 64 - 64 * k) out new (64 * (k + 1)) (omega (arith, long, size)) (omega arith) ∙ ap (λ x. x ++ new) before.bytes
             ∙ ap (λ x. gathered c n k ++ x) is ∙ sym more;
       }
 

@@ -1,11 +1,12 @@
 -- What each call of a store answers and leaves.
-use Rattle.std.specs.Prelude.{◌≡◌, ℕ, Bool, true, false, cond, not, ◌&&◌, ◌||◌, List, length, is_some, Some, None, Option, Result, ◌==◌, nat_le}
+use Rattle.std.specs.Prelude.{◌≡◌, ℕ, ◌<◌, Bool, true, false, cond, not, ◌&&◌, ◌||◌, List, length, is_some, Some, None, Option, Result, MatchResult, ◌==◌, nat_le}
 use Rattle.std.specs.Option.{unwrap_or}
 use Rattle.refusal.specs.Answer.{refuse, outcome, first, Turns}
 use Rattle.refusal.specs.declared.kind.Refusal.{Refusal}
 use Rattle.refusal.specs.declared.kind.Refusal.TheVariants.{Node, Place, Slot as BadSlot, Length, SlotNotEmpty, SlotNotOpen, Missing, SlotEmpty, Incomplete}
 use Rattle.store.specs.declared.kinds.Shape.{Shape}
 use Rattle.store.specs.declared.kinds.State.{State}
+use Rattle.store.specs.declared.kinds.UnknownState.{UnknownState}
 use Rattle.store.specs.declared.kinds.State.TheVariants.{Empty, Open, Sealed}
 use Rattle.block.specs.Block.{Block}
 use Rattle.store.specs.Meaning.{Nodes, Cells, Slot, Rule, Meaning}
@@ -48,6 +49,10 @@ abbrev pub state_number : State → ℕ
 state_number Empty = 0
 state_number Open = 1
 state_number Sealed = 2
+
+-- the state with a number, or that number where it is none's
+abbrev pub StateOf : ℕ → Result State UnknownState → Type 0
+StateOf k r = MatchResult r (λ x. state_number x ≡ k) (λ e. (e.0 ≡ k) × (2 < k))
 
 -- state
 

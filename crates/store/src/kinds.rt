@@ -11,7 +11,11 @@ pub struct Shape {
 // What a slot is: empty, open (it is being filled), or sealed (it is complete, and protected against losses).
 #[derive(Clone, Copy, PartialEq, Eq, Debug)]
 pub enum State {
-    Empty,
-    Open,
-    Sealed,
+    Empty = 0,
+    Open = 1,
+    Sealed = 2,
 }
+
+// A number that stands for no state.
+#[derive(Clone, Copy, PartialEq, Eq, Debug)]
+pub struct UnknownState(pub u8);

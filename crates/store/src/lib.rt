@@ -3,13 +3,13 @@
 
 ghost use Rattle.std.specs.Prelude.{◌≡◌, ℕ, ◌+◌, ◌*◌, ◌<◌, ◌≤◌, length, OnErr};
 ghost use Rattle.store.specs.Meaning.{Meaning, Lawful, within_limits};
-ghost use Rattle.store.specs.Calls.{StateAnswer, GetAnswer, OpenAnswer, PutAnswer, SealAnswer, LoseAnswer, ClearAnswer, state_number};
+ghost use Rattle.store.specs.Calls.{StateAnswer, GetAnswer, OpenAnswer, PutAnswer, SealAnswer, LoseAnswer, ClearAnswer, state_number, StateOf};
 ghost use Rattle.store.specs.Rank.{RankAnswer, Reads, Ends};
 
 pub mod kinds;
 
 use block::BLOCK;
-use kinds::{Shape, State};
+use kinds::{Shape, State, UnknownState};
 use refusal::kind::Refusal;
 
 impl Shape {
@@ -17,12 +17,9 @@ impl Shape {
     pub fn is_admitted(&self) -> bool
         ensures { result ≡ within_limits self.now }
     {
-        2 <= self.nodes
-            && self.nodes <= 64
-            && 1 <= self.places
-            && self.places <= 64
-            && 2 <= self.slots
-            && self.slots <= 8
+        (2..=64).contains(&self.nodes)
+            && (1..=64).contains(&self.places)
+            && (2..=8).contains(&self.slots)
     }
 }
 
@@ -31,10 +28,22 @@ impl State {
     pub fn number(&self) -> u8
         ensures { result ≡ state_number self.now }
     {
-        match self {
-            State::Empty => 0,
-            State::Open => 1,
-            State::Sealed => 2,
+        *self as u8
+    }
+}
+
+// The state that a number stands for.
+impl TryFrom<u8> for State {
+    type Error = UnknownState;
+
+    ghost try_from_gives = { StateOf };
+
+    fn try_from(number: u8) -> Result<State, UnknownState> {
+        match number {
+            0 => Ok(State::Empty),
+            1 => Ok(State::Open),
+            2 => Ok(State::Sealed),
+            _ => Err(UnknownState(number)),
         }
     }
 }
@@ -93,8 +102,10 @@ pub trait Store: Reading {
 fn gather<R: Reading>(source: &R, slot: usize, node: usize, out: &mut [u8]) -> Result<(), Refusal>
     ensures { R.Reading.sound source.now → Reads (R.Reading.meaning source.now) slot node (length out.old) → Ends (R.Reading.meaning source.now) slot node result out.new }
 {
+    // Cut by ranges: no contract tells what a buffer holds that was written through `chunks_exact_mut`.
     for place in 0..out.len() / BLOCK {
         let at = BLOCK * place;
+        // This form is the one that docs/DECISIONS.md names for this place.
         let answer = source.get(slot, node, place, &mut out[at..at + BLOCK]);
         let Ok(()) = answer else {
             return answer;
@@ -116,10 +127,7 @@ fn gather_by<R: Reading>(
     ensures ends { R.Reading.sound source.now → Reads (R.Reading.meaning source.now) slot node (length file.old) → Ends (R.Reading.meaning source.now) slot node result file.new }
 {
     let part = &mut scratch[0..file.len()];
-    let answer = gather(source, slot, node, part);
-    let Ok(()) = answer else {
-        return answer;
-    };
+    gather(source, slot, node, part)?;
     file.copy_from_slice(part);
     Ok(())
 }
@@ -144,6 +152,7 @@ pub fn read_rank<R: Reading>(
     if shape.places > 64 || file.len() != BLOCK * shape.places {
         return Err(Refusal::Length);
     }
+    // A fixed buffer with room for the longest file, since reading allocates nothing.
     let mut scratch = [0; 4096];
     gather_by(source, slot, rank, &mut scratch, file)
 }

@@ -7,7 +7,7 @@ ghost use Rattle.store.specs.Meaning.{vacant, bare};
 ghost use Rattle.grid.specs.Grid.{means};
 ghost use Rattle.grid.specs.Index.{table_refusal};
 ghost use Rattle.image_format.specs.Image.{size};
-ghost use Rattle.block_file.specs.File.{grid_of, SoundFile};
+ghost use Rattle.block_file.specs.File.{grid_of};
 ghost use Rattle.image_reader.specs.Example.{small, hurt, expected};
 ghost use Rattle.worked.specs.Worked.{WorkedValues};
 
@@ -18,10 +18,8 @@ use store::kinds::Shape;
 
 // Makes the calls of the worked image on an empty block file of its shape.
 fn fill(file: &mut BlockFile) -> Result<(), Refusal>
-    requires sound { SoundFile file.old }
-    requires means { means (grid_of file.old) ≡ vacant small bare }
+    requires { means (grid_of file.old) ≡ vacant small bare }
     ensures answer { result ≡ Ok tt }
-    ensures sound { SoundFile file.new }
     ensures means { means (grid_of file.new) ≡ hurt }
 {
     file.open(0)?;

@@ -14,7 +14,7 @@ returns c =
     let f = c.fill.new.file in
     record {
       answer = c.in_ok-check.ensures;
-      laid = c.copy_from_slice.ensures.after ∙ c.image.ensures ∙ as_expected (shape_of f) f.image.now c.fill.ensures.sound c.fill.ensures.means;
+      laid = c.copy_from_slice.ensures.after ∙ c.image.ensures ∙ as_expected (shape_of f) f.image.now f.laid c.fill.ensures.means;
       untouched = tt;
       worked = worked_values;
     }

@@ -1,26 +1,15 @@
-use Rattle.std.proofs.Common.{sym, refl, ap, ◌∙◌}
+use Rattle.std.proofs.Common.{◌≡◌, rules}
 use Rattle.refusal.specs.Answer.{outcome}
-use Rattle.image_reader.proofs.Checked.{only_damage, passed, not_damaged}
+use Rattle.image_reader.specs.Damage.{image_refusal}
+use Rattle.image_reader.proofs.Checked.{passed, passes}
 use Rattle.image_reader.proofs.reader.ImageReader.check.Goals as goal
 
-pub returns-in-Some : goal.returns-in-Some
-returns-in-Some c =
-    let h = c.args.shape in
-    let img = c.args.image.now in
-    let is = sym c.damage.ensures ∙ c.in-Some.is in
-    record {
-      answer = sym (ap (λ o. outcome o tt) (only_damage h img (sym c.if-not-is_admitted.ensures) c.if-image-shape.false ∙ is));
-      passed = tt;
-      passes = λ k. absurd (not_damaged h img k _ is);
-    }
+pub returns-clause-passed : goal.returns-clause-passed
+returns-clause-passed c =
+    let answer : c.check-2.result ≡ outcome (image_refusal c.args.shape c.args.image.now) tt = search rules in
+    passed c.args.shape c.args.image.now c.check-2.result answer (λ j. (c.type_inv.image j).fits)
 
-pub returns : goal.returns
-returns c =
-    let h = c.args.shape in
-    let img = c.args.image.now in
-    let none = only_damage h img (sym c.if-not-is_admitted.ensures) c.if-image-shape.false ∙ sym c.damage.ensures ∙ c.in_default.is in
-    record {
-      answer = sym (ap (λ o. outcome o tt) none);
-      passed = passed h img none (λ j. (c.type_inv.image j).fits);
-      passes = λ k. refl;
-    }
+pub returns-clause-passes : goal.returns-clause-passes
+returns-clause-passes c =
+    let answer : c.check-2.result ≡ outcome (image_refusal c.args.shape c.args.image.now) tt = search rules in
+    passes c.args.shape c.args.image.now c.check-2.result answer
