@@ -1,25 +1,24 @@
 -- Reading all data of a level, stripe after stripe. Assumes nothing.
-use Rattle.std.proofs.Common.{◌≡◌, ℕ, ◌+◌, ◌-◌, ◌*◌, ◌/◌, ◌%◌, ◌<◌, ◌≤◌, true, false, cond, not, List, length, take, drop, is_some, is_ok, Some, None, Option, Result, sym, ap, ◌∙◌, subst, ap₂, ⊎_elim, mul_assoc, mul_comm, add-mul, arith}
+use Rattle.std.proofs.Common.{◌≡◌, ℕ, ◌+◌, ◌-◌, ◌*◌, ◌/◌, ◌%◌, ◌<◌, ◌≤◌, true, false, cond, not, List, length, take, drop, is_some, is_ok, Some, None, Ok, Option, Result, sym, ap, ◌∙◌, subst, ap₂, ⊎_elim, mul_assoc, mul_comm, add-mul, arith, below_more}
 use lib.Arith.{digits_lt, digits_div, digits_mod}
 use borrow.Rule.Slice.PartMut.{put_mid}
 use Rattle.std.proofs.lemmas.Nat.{mul-le}
 use Rattle.std.proofs.lemmas.List.Edits.{length-between}
 use Rattle.std.proofs.lemmas.Bool.{cases_eq}
-use Rattle.refusal.specs.Answer.{refuse}
+use Rattle.refusal.specs.Answer.{refuse, first}
 use Rattle.refusal.specs.declared.kind.Refusal.{Refusal}
 use Rattle.refusal.specs.declared.kind.Refusal.TheVariants.{Incomplete}
 use Rattle.refusal.proofs.First.{first_found, first_all}
 use Rattle.code.specs.Calls.{block_at}
 use Rattle.code.proofs.Parts.{block_here, block_other}
 use Rattle.store.specs.Meaning.{Cells, Meaning}
-use Rattle.store.specs.declared.kinds.Shape.{Shape}
 use Rattle.store.specs.Calls.{cells_of, absent_at, GetAnswer}
 use Rattle.stripe_map.specs.declared.layout.Layout.{Layout}
 use Rattle.stripe_map.specs.declared.layout.Stripe.{Stripe}
 use Rattle.stripe_map.specs.Map.{node_of, place_of, stripe_of, block_of, Among}
 use Rattle.stripe_map.proofs.Back.{groups_fill, data_place, block_below, place_back, node_back, stripe_among, stripe_on, block_on}
-use Rattle.level.specs.Level.{Fits}
-use Rattle.level.specs.Checks.{start_of, position_of, CollectedTo}
+use Rattle.level.specs.Level.{Fits, level_shape}
+use Rattle.level.specs.Checks.{start_of, position_of, CollectedTo, NodeEnds}
 use Rattle.level.proofs.Reading.{cell_told}
 
 module _ (l : Layout) where
@@ -81,39 +80,64 @@ module _ (l : Layout) where
         sym (place_back l x y) ∙ ap₂ (place_of l) q.0 q.1 ∙ place_back l n p,
       )
 
-  -- what the answer of a get tells of a cell of the level, if it was read into a part of the bytes
-  pub part_told : (m : Meaning) → Fits l m.shape → (s n p at : ℕ) → s < m.shape.slots → n < l.nodes → p < l.k * l.lanes
-      → (bytes new : List ℕ) (r : Result Unit Refusal) → at + 64 ≤ length bytes → GetAnswer m s n p (take (at + 64 - at) (drop at bytes)) r new
-      → cond (is_ok r) (Some new) None ≡ cells_of (m.slot s) n p
-  part_told m F s n p at s< hn hp bytes new r room q =
-      let wide : at + 64 - at ≡ 64 = omega arith in
-      let d = data_place l p hp in
-      cell_told m s n p s< (omega (arith, hn, F.nodes)) (omega (arith, d, F.places)) _ new r (length-between bytes at (at + 64) room ∙ wide) q
+-- reading the cells of a node, place after place
+module _ (l : Layout) (m : Meaning) (F : Fits l m.shape) (s n : ℕ) (s< : s < m.shape.slots) (n< : n < l.nodes) where
+  abbrev cells : Cells
+  cells = cells_of (m.slot s)
 
-  -- one cell more is read
-  pub collect_more : (c : Cells) (n p w : ℕ) (bytes new : List ℕ) → n < l.nodes → p < l.k * l.lanes → position_of l n p * 64 ≤ length bytes → w ≡ 64 → length new ≡ 64
-      → c n p ≡ Some new → CollectedTo l c n p bytes → CollectedTo l c n (p + 1) (put_mid (position_of l n p * 64) w bytes new)
-  collect_more c n p w bytes new hn hp room wide size here before = (
-    (λ x y x< xn y<. before.0 x y x< xn y< ∙ ap Some (sym (other x y xn y< (λ e _. omega arith)))),
-    (λ y y<. ⊎_elim
-        (λ (e : y ≡ p). subst (λ z. c n z ≡ Some (block_at (put_mid (position_of l n p * 64) w bytes new) (position_of l n z))) (sym e) (here ∙ ap Some (sym (block_here (position_of l n p) w bytes new room size))))
-        (λ (ne : y ≡ p → ⊥). before.1 y (omega arith) ∙ ap Some (sym (other n y hn (omega arith) (λ _ e. ne e))))
-        (cases_eq y p)),
+  abbrev absent : ℕ → Option Refusal
+  absent y = refuse (not (is_some (cells n y))) (Incomplete n y) None
+
+  none_absent : (p y : ℕ) (bytes : List ℕ) → CollectedTo l cells n p bytes → y ≤ p → first absent y ≡ None
+  none_absent p y bytes read e = first_all absent y (λ z z<. ap (λ o. refuse (not (is_some o)) (Incomplete n z) None) (read.1 z (omega arith)))
+
+  -- past its last place all are read
+  pub node_ends : (p : ℕ) (bytes : List ℕ) → l.k * l.lanes ≤ p → CollectedTo l cells n p bytes → NodeEnds l m s n (Ok tt) bytes
+  node_ends p bytes e read = (
+    (λ x y x< xn y<. ⊎_elim
+        (λ (here : x ≡ n). subst (λ z. cells z y ≡ Some (block_at bytes (position_of l z y))) (sym here) (read.1 y (omega arith)))
+        (λ (ne : x ≡ n → ⊥). read.0 x y (omega arith) xn y<)
+        (cases_eq x n)),
+    none_absent p (l.k * l.lanes) bytes read e,
   )
-    where
-      other : (x y : ℕ) → x < l.nodes → y < l.k * l.lanes → (x ≡ n → y ≡ p → ⊥) → block_at (put_mid (position_of l n p * 64) w bytes new) (position_of l x y) ≡ block_at bytes (position_of l x y)
-      other x y hx hy ne = block_other (position_of l n p) w bytes new room size wide (position_of l x y)
-          (λ e. let q = position_only x y n p hx hy hn hp e in ne q.0 q.1)
 
-  -- a node has all its cells
-  pub none_absent : (h : Shape) (c : Cells) (n p : ℕ) → ((y : ℕ) → y < p → is_some (c n y) ≡ true) → h.places ≤ p → absent_at h c n ≡ None
-  none_absent h c n p there e =
-      first_all (λ y. refuse (not (is_some (c n y))) (Incomplete n y) None) h.places
-      (λ y y<. ap (λ t. refuse (not t) (Incomplete n y) None) (there y (omega arith)))
+  -- at a place, whose block is read into its part of the bytes
+  module _ (p at : ℕ) (bytes new : List ℕ) (r : Result Unit Refusal) (p< : p < l.k * l.lanes) (is : at ≡ position_of l n p) (room : length bytes ≡ 262144)
+      (read : CollectedTo l cells n p bytes) (q : GetAnswer m s n p (take (at * 64 + 64 - at * 64) (drop (at * 64) bytes)) r new) where
+    wide : at * 64 + 64 - at * 64 ≡ 64
+    wide = omega arith
 
-  -- or a first absent one
-  pub first_absent : (h : Shape) (c : Cells) (n p : ℕ) → ((y : ℕ) → y < p → is_some (c n y) ≡ true) → is_some (c n p) ≡ false → p < h.places → absent_at h c n ≡ Some (Incomplete n p)
-  first_absent h c n p there gone p< =
-      let f : ℕ → Option Refusal = λ y. refuse (not (is_some (c n y))) (Incomplete n y) None in
-      let here : f p ≡ Some (Incomplete n p) = ap (λ t. refuse (not t) (Incomplete n p) None) gone in
-      first_found f p h.places (first_all f p (λ y y<. ap (λ t. refuse (not t) (Incomplete n y) None) (there y y<))) (ap is_some here) p< ∙ here
+    within : at * 64 + 64 ≤ length bytes
+    within = omega (arith, is, room, position_within l n p n< p<, few_data l)
+
+    part_size : length (take (at * 64 + 64 - at * 64) (drop (at * 64) bytes)) ≡ 64
+    part_size = length-between bytes (at * 64) (at * 64 + 64) within ∙ wide
+
+    told : cond (is_ok r) (Some new) None ≡ cells n p
+    told = let d = data_place l p p< in cell_told m s n p s< (omega (arith, n<, F.nodes)) (omega (arith, d, F.places)) _ new r part_size q
+
+    -- there is none
+    pub node_stops : is_ok r ≡ false → absent_at (level_shape l m.shape) cells n ≡ Some (Incomplete n p)
+    node_stops bad =
+        let gone : absent p ≡ Some (Incomplete n p) = ap (λ o. refuse (not (is_some o)) (Incomplete n p) None) (sym told ∙ ap (λ b. cond b (Some new) None) bad) in
+        first_found absent p (l.k * l.lanes) (none_absent p p bytes read (omega arith)) (ap is_some gone) p< ∙ gone
+
+    abbrev bytes' : List ℕ
+    bytes' = put_mid (at * 64) (at * 64 + 64 - at * 64) bytes new
+
+    -- or it is read
+    pub node_reads : is_ok r ≡ true → length new ≡ length (take (at * 64 + 64 - at * 64) (drop (at * 64) bytes))
+        → CollectedTo l cells n (p + 1) bytes'
+    node_reads good long = (
+      (λ x y x< xn y<. read.0 x y x< xn y< ∙ ap Some (sym (other x y xn y< (λ e _. omega arith)))),
+      below_more (λ y. cells n y ≡ Some (block_at bytes' (position_of l n y))) p
+          (λ y y<. read.1 y y< ∙ ap Some (sym (other n y n< (omega arith) (λ _ e. omega arith))))
+          (sym told ∙ ap (λ b. cond b (Some new) None) good ∙ ap Some (sym (block_here at (at * 64 + 64 - at * 64) bytes new (omega (arith, within)) size) ∙ ap (block_at bytes') is)),
+    )
+      where
+        size : length new ≡ 64
+        size = long ∙ part_size
+
+        other : (x y : ℕ) → x < l.nodes → y < l.k * l.lanes → (x ≡ n → y ≡ p → ⊥) → block_at bytes' (position_of l x y) ≡ block_at bytes (position_of l x y)
+        other x y hx hy ne = block_other at (at * 64 + 64 - at * 64) bytes new (omega (arith, within)) size wide (position_of l x y)
+            (λ e. let z = position_only l x y n p hx hy n< p< (e ∙ is) in ne z.0 z.1)

@@ -2,7 +2,7 @@
 use Rattle.std.proofs.Common.{◌≡◌, ℕ, ◌*◌, ◌<◌, Bool, true, false, cond, not, ◌&&◌, eqb, ltb, leb, ◌⊎◌, List, length, is_some, Some, None, Err, Option, Result, unwrap_or, sym, refl, ap, ◌∙◌, ap₂, inl, inr, ⊎_elim, arith}
 use Rattle.std.proofs.lemmas.Bool.{lt-leb, leb-false, lt-ltb, cond-true, eqb-true, not-false, false≢true}
 use Rattle.std.specs.Option.{option_or}
-use Rattle.refusal.specs.Answer.{refuse, outcome, unless, Turns}
+use Rattle.refusal.specs.Answer.{refuse, outcome, unless}
 use Rattle.refusal.specs.declared.kind.Refusal.{Refusal}
 use Rattle.refusal.specs.declared.kind.Refusal.TheVariants.{Slot as BadSlot, Length, Missing}
 use Rattle.refusal.proofs.Turning.{refuse_not, refuse_rest}
@@ -16,6 +16,7 @@ use Rattle.stripe_map.specs.Map.{stripe_of, block_of}
 use Rattle.stripe_map.proofs.Back.{data_place}
 use Rattle.level.specs.Level.{Fits, held_of, restored, inside, level_slot, level}
 use Rattle.level.specs.Stripes.{RestoreAnswer, from_stripe, is_missing, is_sealed}
+use Rattle.level.proofs.Ways.{by_sealed, turns_along}
 use Rattle.level.proofs.Words.{is_inside}
 
 -- the refusals that come after node and place
@@ -26,17 +27,6 @@ later_same : (v w : Bool) (a b : Option Refusal) → (v ≡ false → w ≡ fals
 later_same true w a b h = refl
 later_same false true a b h = refl
 later_same false false a b h = h refl refl
-
--- the same refusal, and where there is none the same block
-same_turn : (f f' : Option Refusal) (old x y : List ℕ) (r : Result Unit Refusal) (new : List ℕ) → f ≡ f' → (f ≡ None → x ≡ y) → Turns f old x r new → Turns f' old y r new
-same_turn f f' old x y r new e h q = record {
-  answer = q.answer ∙ ap (λ o. outcome o tt) e;
-  leaves = q.leaves ∙ at f h ∙ ap (λ o. unless o old y) e;
-}
-  where
-    at : (f : Option Refusal) → (f ≡ None → x ≡ y) → unless f old x ≡ unless f old y
-    at None h = h refl
-    at (Some z) h = refl
 
 -- a slot beneath gives for a cell what the level's slot gives
 record Same (s t : Slot) (n p : ℕ) : Type 0 where
@@ -49,9 +39,7 @@ record Gap (s : Slot) (n p : ℕ) : Type 0 where
   none : cells_of s n p ≡ None
 
 sealed_refusal : (s : Slot) (n p : ℕ) → is_sealed s ≡ true → cell_refusal s n p ≡ refuse (not (is_some (cells_of s n p))) (Missing n p) None
-sealed_refusal empty n p e = absurd (false≢true e)
-sealed_refusal (opened c) n p e = refl
-sealed_refusal (sealed d c) n p e = refl
+sealed_refusal s n p e = by_sealed (λ z. cell_refusal z n p ≡ refuse (not (is_some (cells_of z n p))) (Missing n p) None) (λ d c. refl) s e
 
 module _ (l : Layout) (K : Coding) (n p : ℕ) (i : inside l n p ≡ true) where
   same_or_gap : (s : Slot) → Same s (level_slot l K.whole s) n p ⊎ Gap s n p
@@ -71,16 +59,13 @@ module _ (l : Layout) (K : Coding) (n p : ℕ) (i : inside l n p ≡ true) where
 
   -- what the level has at a gap beneath
   gap_cell : (s : Slot) → Gap s n p → cells_of (level_slot l K.whole s) n p ≡ restored l K.whole (held_of l (cells_of s) (stripe_of l n p)) (block_of l p)
-  gap_cell empty g = absurd (false≢true g.sealed)
-  gap_cell (opened c) g = absurd (false≢true g.sealed)
-  gap_cell (sealed d c) g =
-      let word = restored l K.whole (held_of l c (stripe_of l n p)) (block_of l p) in
-      cond-true (inside l n p) (option_or (c n p) word) None i ∙ ap (λ o. option_or o word) g.none
+  gap_cell s g =
+      let word : Slot → Option Block = λ z. restored l K.whole (held_of l (cells_of z) (stripe_of l n p)) (block_of l p) in
+      by_sealed (λ z. cells_of z n p ≡ None → cells_of (level_slot l K.whole z) n p ≡ word z)
+      (λ d c e. cond-true (inside l n p) (option_or (c n p) (word (sealed d c))) None i ∙ ap (λ o. option_or o (word (sealed d c))) e) s g.sealed g.none
 
   level_sealed : (s : Slot) → is_sealed s ≡ true → is_sealed (level_slot l K.whole s) ≡ true
-  level_sealed empty e = e
-  level_sealed (opened c) e = e
-  level_sealed (sealed d c) e = refl
+  level_sealed s e = by_sealed (λ z. is_sealed (level_slot l K.whole z) ≡ true) (λ d c. refl) s e
 
 module _ (l : Layout) (K : Coding) (b : Meaning) (F : Fits l b.shape) (s n p : ℕ) (hn : n < l.nodes) (hp : p < l.k * l.lanes)
     (old new : List ℕ) (r : Result Unit Refusal) (q : GetAnswer b s n p old r new) where
@@ -106,7 +91,7 @@ module _ (l : Layout) (K : Coding) (b : Meaning) (F : Fits l b.shape) (s n p : �
 
   -- what is not missing in a sealed slot is handed on
   pub get_passes : (is_missing r && (ltb s b.shape.slots && is_sealed (b.slot s))) ≡ false → GetAnswer (level l K.whole b) s n p old r new
-  get_passes h = same_turn _ _ old _ _ r new
+  get_passes h = turns_along (λ o. o) _ _ old _ _ r new
       (below_later ∙ later_same v w _ _ (λ x y. (both x y).refusal) ∙ sym level_later)
       (λ e.
       let f = sym below_later ∙ e in
@@ -156,4 +141,4 @@ module _ (l : Layout) (K : Coding) (b : Meaning) (F : Fits l b.shape) (s n p : �
         = level_later ∙ ap₂ (λ x y. later x y (cell_refusal (level_slot l K.whole (b.slot s)) n p)) g.0 g.1
         ∙ sealed_refusal (level_slot l K.whole (b.slot s)) n p (level_sealed l K n p i (b.slot s) in_sealed)
         ∙ ap (λ u. refuse (not (is_some u)) (Missing n p) None) cell in
-        same_turn _ _ old _ _ r' new' (sym f) (λ _. ap (λ u. unwrap_or u old) (sym cell)) a
+        turns_along (λ o. o) _ _ old _ _ r' new' (sym f) (λ _. ap (λ u. unwrap_or u old) (sym cell)) a

@@ -102,13 +102,13 @@ module _ (l : Layout) (m : Meaning) (L : Lawful m) (F : Fits l m.shape) where
     pub level_lawful : Lawful (level l K.whole m)
     level_lawful = record {
       limits = level_limits;
-      alive = λ n p d i h. or_left (m.covers n p d) (leb l.k (covered_of l m.covers (stripe_of l n p) d)) (L.alive n p d (cell_within n p i) h);
+      alive = λ n p d i h. or_left _ _ (L.alive n p d (cell_within n p i) h);
       fewer = λ n p d e i sub h.
           ⊎_elim
-          (λ r. or_left (m.covers n p e) (leb l.k (covered_of l m.covers (stripe_of l n p) e)) (L.fewer n p d e (cell_within n p i) sub r))
-          (λ r. or_right (m.covers n p e) (leb l.k (covered_of l m.covers (stripe_of l n p) e))
+          (λ r. or_left _ _ (L.fewer n p d e (cell_within n p i) sub r))
+          (λ r. or_right _ _
           (covered_fewer (stripe_of l n p) d e (stripe_among l n p (level_node n i.0)) sub r))
-          (or_cases (m.covers n p d) (leb l.k (covered_of l m.covers (stripe_of l n p) d)) h);
+          (or_cases (m.covers n p d) _ h);
       slots = λ s. lawful_slot (m.slot s) (L.slots s);
       past = λ s h. ap (level_slot l K.whole) (L.past s h);
     }

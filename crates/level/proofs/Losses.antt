@@ -14,7 +14,7 @@ use Rattle.stripe_map.specs.declared.layout.Stripe.{Stripe}
 use Rattle.stripe_map.specs.Map.{node_of, place_of, stripe_of, block_of}
 use Rattle.stripe_map.proofs.Back.{data_place, block_below, stripe_among}
 use Rattle.level.specs.Level.{Fits, held_of, covered_of, level_covers, inside, level_slot, SlotWords}
-use Rattle.level.proofs.Ways.{some_test, lost_cell, lost_open, Facts}
+use Rattle.level.proofs.Ways.{some_test, some_under, lost_cell, lost_open, Facts}
 use Rattle.level.proofs.Words.{Law, inside_is, held_blocks, whole_is, below_word}
 use Rattle.level.proofs.Lawful.{below_node, held_covered}
 
@@ -54,11 +54,7 @@ module _ (l : Layout) (m : Meaning) (L : Lawful m) (F : Fits l m.shape) (K : Cod
   left_covered : (d : Nodes) (z : ℕ) (c : Cells) → ((n p : ℕ) → Within m.shape n p → is_some (c n p) ≡ m.covers n p d)
       → (n p : ℕ) → Within m.shape n p → is_some (left m.covers (with_node d z) c n p) ≡ m.covers n p (with_node d z)
   left_covered d z c r n p i =
-      still (m.covers n p (with_node d z)) (c n p) (λ e. r n p i ∙ L.fewer n p (with_node d z) d i (λ y h. or_left (d y) (eqb y z) h) e)
-    where
-      still : (t : Bool) (o : Option Block) → (t ≡ true → is_some o ≡ true) → is_some (cond t o None) ≡ t
-      still true o h = h refl
-      still false o h = refl
+      some_under (m.covers n p (with_node d z)) (c n p) (λ e. r n p i ∙ L.fewer n p (with_node d z) d i (λ y h. or_left (d y) (eqb y z) h) e)
 
   -- what is held after the loss was held before
   held_before : (t r : Bool) (o : Option Block) → is_some (cond t (cond r o None) None) ≡ true → is_some (cond t o None) ≡ true

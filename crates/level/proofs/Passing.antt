@@ -1,8 +1,8 @@
 -- A call that a level passes on is the same call of the level. Assumes nothing.
 use Rattle.std.proofs.Common.{◌≡◌, ℕ, ◌*◌, ◌<◌, Bool, true, false, cond, not, ◌&&◌, eqb, leb, List, length, Some, None, Option, Result, sym, refl, ap, ◌∙◌, subst, ap₂, arith}
 use mathlib.Core.Path.{fun_ext}
-use Rattle.std.proofs.lemmas.Bool.{and_parts, eqb-true, lt-leb, not-false, false≢true}
-use Rattle.refusal.specs.Answer.{refuse, outcome, unless, Turns}
+use Rattle.std.proofs.lemmas.Bool.{cond_both, and_parts, eqb-true, lt-leb, not-false, false≢true}
+use Rattle.refusal.specs.Answer.{refuse, unless, Turns}
 use Rattle.refusal.specs.declared.kind.Refusal.{Refusal}
 use Rattle.refusal.specs.declared.kind.Refusal.TheVariants.{Node, Place, Slot as BadSlot, Length, SlotNotOpen, SlotNotEmpty}
 use Rattle.refusal.proofs.Turning.{refuse_not, refuse_rest}
@@ -14,6 +14,7 @@ use Rattle.store.specs.Calls.{state_of, is_empty, is_open, cells_of, no_cells, w
 use Rattle.stripe_map.specs.declared.layout.Layout.{Layout}
 use Rattle.stripe_map.proofs.Back.{data_place}
 use Rattle.level.specs.Level.{inside, open_cells, level_slot, level, SlotWords, Laid}
+use Rattle.level.proofs.Ways.{by_open, by_slots, turns_along}
 use Rattle.level.proofs.Words.{Law, is_inside}
 use Rattle.level.proofs.Losses.{lost_words, lost_level}
 
@@ -36,34 +37,19 @@ same_empty l K (sealed d c) = refl
 module _ (l : Layout) (K : Coding) where
   -- one slot changed
   pub level_with : (b : Meaning) (s : ℕ) (x y : Slot) → level_slot l K.whole x ≡ y → level l K.whole (with_slot b s x) ≡ with_slot (level l K.whole b) s y
-  level_with b s x y e = λ i. record {
-    shape = (level l K.whole b).shape;
-    covers = (level l K.whole b).covers;
-    slot = λ t. both (eqb t s) (b.slot t) i;
-  }
+  level_with b s x y e = by_slots (level l K.whole b) _ _ (λ t. both (eqb t s) (b.slot t))
     where
       both : (q : Bool) (z : Slot) → level_slot l K.whole (cond q x z) ≡ cond q y (level_slot l K.whole z)
       both true z = e
       both false z = refl
 
   pub laid_with : (b : Meaning) (s : ℕ) (x : Slot) → Laid l K b → SlotWords l K.Word x → Laid l K (with_slot b s x)
-  laid_with b s x a h = record { matches = a.matches; words = λ t. both (eqb t s) (b.slot t) (a.words t) }
-    where
-      both : (q : Bool) (z : Slot) → SlotWords l K.Word z → SlotWords l K.Word (cond q x z)
-      both true z h' = h
-      both false z h' = h'
+  laid_with b s x a h = record { matches = a.matches; words = λ t. cond_both (eqb t s) x (b.slot t) (SlotWords l K.Word) (λ _. h) (λ _. a.words t) }
 
   -- a turn of the store beneath, refused by f, which is also the level's refusal, and one of the level
   module _ (b b' B : Meaning) (f : Option Refusal) (r : Result Unit Refusal) (q : Turns f b B r b') where
     turn_level : (f' : Option Refusal) (B' : Meaning) → f ≡ f' → (f ≡ None → level l K.whole B ≡ B') → Turns f' (level l K.whole b) B' r (level l K.whole b')
-    turn_level f' B' e h = record {
-      answer = q.answer ∙ ap (λ o. outcome o tt) e;
-      leaves = ap (level l K.whole) q.leaves ∙ at f h ∙ ap (λ o. unless o (level l K.whole b) B') e;
-    }
-      where
-        at : (f : Option Refusal) → (f ≡ None → level l K.whole B ≡ B') → level l K.whole (unless f b B) ≡ unless f (level l K.whole b) B'
-        at None h = h refl
-        at (Some x) h = refl
+    turn_level f' B' e h = turns_along (level l K.whole) f f' b B B' r b' e h q
 
     turn_laid : Laid l K b → Laid l K B → Laid l K b'
     turn_laid a h = subst (Laid l K) (sym q.leaves) (at f)
@@ -75,11 +61,7 @@ module _ (l : Layout) (K : Coding) where
   module _ (b b' : Meaning) (L : Lawful b) (a : Laid l K b) (r : Result Unit Refusal) where
     -- lose
     pub lose_means : (x : ℕ) → Law l K → LoseAnswer b x r b' → LoseAnswer (level l K.whole b) x r (level l K.whole b')
-    lose_means x D q = turn_level b b' _ (lose_refusal b x) r q (lose_refusal b x) _ refl (λ _ i. record {
-      shape = (level l K.whole b).shape;
-      covers = (level l K.whole b).covers;
-      slot = λ s. lost_level l b L a.matches.fits K D x (b.slot s) (L.slots s) (a.words s) i;
-    })
+    lose_means x D q = turn_level b b' _ (lose_refusal b x) r q (lose_refusal b x) _ refl (λ _. by_slots (level l K.whole b) _ _ (λ s. lost_level l b L a.matches.fits K D x (b.slot s) (L.slots s) (a.words s)))
 
     pub lose_laid : (x : ℕ) → LoseAnswer b x r b' → Laid l K b'
     lose_laid x q = turn_laid b b' _ (lose_refusal b x) r q a (record {
@@ -126,9 +108,8 @@ module _ (l : Layout) (K : Coding) where
 
     put_cells : (n p : ℕ) (z : Block) (s : Slot) → n < l.nodes → p < l.k * l.lanes → is_open s ≡ true
         → open_cells l (with_cell (cells_of s) n p (Some z)) ≡ with_cell (cells_of (level_slot l K.whole s)) n p (Some z)
-    put_cells n p z empty h g e = absurd (false≢true e)
-    put_cells n p z (sealed d c) h g e = absurd (false≢true e)
-    put_cells n p z (opened c) h g e = fun_ext (λ x. fun_ext (λ y. swap (inside l x y) (eqb x n && eqb y p) (c x y) (there x y)))
+    put_cells n p z s h g e = by_open (λ t. open_cells l (with_cell (cells_of t) n p (Some z)) ≡ with_cell (cells_of (level_slot l K.whole t)) n p (Some z))
+        (λ c. fun_ext (λ x. fun_ext (λ y. swap (inside l x y) (eqb x n && eqb y p) (c x y) (there x y)))) s e
       where
         swap : (i q : Bool) (o : Option Block) → (q ≡ true → i ≡ true) → cond i (cond q (Some z) o) None ≡ cond q (Some z) (cond i o None)
         swap true q o f = refl

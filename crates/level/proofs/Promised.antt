@@ -1,5 +1,5 @@
 -- A sound level keeps its promise. Assumes nothing.
-use Rattle.std.proofs.Common.{◌≡◌, ◌+◌, ◌<◌, true, leb, is_some, Some, None, Option, sym, refl, ap, ◌∙◌, subst, inl, inr, ⊎_elim, arith}
+use Rattle.std.proofs.Common.{◌≡◌, ◌+◌, ◌<◌, true, is_some, Some, None, Option, sym, refl, ap, ◌∙◌, subst, inl, inr, ⊎_elim, arith}
 use Rattle.std.proofs.lemmas.Bool.{leb-true, le-leb, or_left, or_right, or_cases, false≢true}
 use Rattle.block.specs.Block.{Block}
 use Rattle.code.specs.Word.{Coding}
@@ -8,9 +8,9 @@ use Rattle.store.specs.Meaning.Slot.{sealed}
 use Rattle.store.specs.Calls.{cells_of}
 use Rattle.stripe_map.specs.declared.layout.Layout.{Layout}
 use Rattle.stripe_map.specs.declared.layout.Stripe.{Stripe}
-use Rattle.stripe_map.specs.Map.{node_of, place_of, stripe_of, block_of, Among}
+use Rattle.stripe_map.specs.Map.{node_of, place_of, block_of, Among}
 use Rattle.stripe_map.proofs.Back.{data_place, stripe_among, node_back, place_back, block_on, stripe_on, node_within, place_within}
-use Rattle.level.specs.Level.{covered_of, level_slot, sealed_cells, level, StripeWord, SlotWords, Laid}
+use Rattle.level.specs.Level.{level_slot, sealed_cells, level, StripeWord, SlotWords, Laid}
 use Rattle.level.specs.Promise.{OneWord, LevelPromise}
 use Rattle.level.proofs.Words.{Law, held_is, cell_word}
 use Rattle.level.proofs.Lawful.{level_lawful, block_within, below_node, level_node}
@@ -60,9 +60,9 @@ module _ (l : Layout) (K : Coding) (D : Law l K) (b : Meaning) (L : Lawful b) (a
 
   pub promised : LevelPromise l K.Word b above
   promised = record {
-    only_covers = λ n p d w h. ⊎_elim inl (λ e. inr (leb-true l.k (covered_of l b.covers (stripe_of l n p) d) e)) (or_cases (b.covers n p d) (leb l.k (covered_of l b.covers (stripe_of l n p) d)) h);
-    covers_below = λ n p d w h. or_left (b.covers n p d) (leb l.k (covered_of l b.covers (stripe_of l n p) d)) h;
-    covers_stripe = λ n p d w h. or_right (b.covers n p d) (leb l.k (covered_of l b.covers (stripe_of l n p) d)) (le-leb l.k (covered_of l b.covers (stripe_of l n p) d) h);
+    only_covers = λ n p d w h. ⊎_elim inl (λ e. inr (leb-true l.k _ e)) (or_cases (b.covers n p d) _ h);
+    covers_below = λ n p d w h. or_left _ _ h;
+    covers_stripe = λ n p d w h. or_right _ _ (le-leb l.k _ h);
     words = λ s d c e st A. one_word (b.slot s) (L.slots s) ((level_lawful l b L a.matches.fits K D).slots s) (a.words s) d c e st A;
     lies = λ n p w. (stripe_among l n p (level_node l b L a.matches.fits n w.0), node_back l n p (data_place l p w.1), place_back l n p);
     back = λ s c A lt. (stripe_on l s c A lt, block_on l s c A.lane);

@@ -1,13 +1,14 @@
 -- Sealing a slot whose checks are written. Assumes nothing.
-use Rattle.std.proofs.Common.{◌≡◌, ℕ, ◌+◌, ◌*◌, ◌<◌, ◌≤◌, Bool, true, false, cond, not, ltb, leb, List, is_some, Some, None, Ok, Err, Option, Result, sym, refl, ap, ◌∙◌, subst, ap₂, ⊎_elim, arith}
+use Rattle.std.proofs.Common.{◌≡◌, ℕ, ◌+◌, ◌*◌, ◌<◌, ◌≤◌, Bool, true, false, cond, not, ltb, List, is_some, Some, None, Ok, Err, Option, Result, sym, refl, ap, ◌∙◌, subst, ap₂, ⊎_elim, arith}
 use mathlib.Core.Path.{fun_ext}
-use Rattle.std.proofs.lemmas.Bool.{leb-false, lt-ltb, le-ltb, cond-true, cond-false, cases_lt, cases_Bool, false≢true}
+use Rattle.std.proofs.lemmas.Bool.{ltb-true, false_from_ne_true, leb-false, lt-ltb, cond-true, cases_lt, false≢true}
+use Rattle.std.proofs.lemmas.Option.{same_Some}
 use Rattle.std.specs.Option.{option_or}
 use Rattle.refusal.specs.Answer.{refuse, outcome}
 use Rattle.refusal.specs.declared.kind.Refusal.{Refusal}
 use Rattle.refusal.specs.declared.kind.Refusal.TheVariants.{Slot as BadSlot, Incomplete}
 use Rattle.refusal.proofs.First.{first_all, first_same}
-use Rattle.refusal.proofs.Turning.{turned, turns_refused, turns_done}
+use Rattle.refusal.proofs.Turning.{outcome_done, outcome_value, refuse_not, turned, turns_refused, turns_done}
 use Rattle.block.specs.Block.{Block, IsBlock}
 use Rattle.block.proofs.Counts.{count_same, count_below}
 use Rattle.code.specs.Word.{Coding, count_held, AllBlocks}
@@ -25,7 +26,7 @@ use Rattle.stripe_map.specs.Map.{node_of, place_of, stripe_of, block_of, Among}
 use Rattle.stripe_map.proofs.Back.{block_on, stripe_on, node_within, place_within, check_above}
 use Rattle.level.specs.Level.{Fits, inside, held_of, restored, level_shape, sealed_cells, level_slot, level, StripeWord, Laid}
 use Rattle.level.specs.Checks.{Unsealed, Ready, Complete, data_of, check_at, Written, NodesTo}
-use Rattle.level.proofs.Ways.{some_same, none_is}
+use Rattle.level.proofs.Ways.{by_open, none_is, some_under}
 use Rattle.level.proofs.Words.{Law, is_inside, inside_is}
 use Rattle.level.proofs.Passing.{level_with, laid_with, same_open}
 use Rattle.level.proofs.Sealing.{twice, data_same, open_still, on_nodes}
@@ -37,36 +38,30 @@ complete_none h c f =
 
 -- what the state of a slot tells
 pub state_open : (m : Meaning) (s : ℕ) (t : State) → StateAnswer m s (Ok t) → t ≡ Open → Unsealed m s
-state_open m s t a e = at (leb m.shape.slots s) refl a
+state_open m s t a e = record {
+  slot = leb-false m.shape.slots s (refuse_not _ BadSlot None (outcome_done _ _ t (sym a)));
+  unsealed = kind (m.slot s) (outcome_value _ _ t (sym a) ∙ e);
+}
   where
     kind : (z : Slot) → state_of z ≡ Open → is_open z ≡ true
-    kind empty q = let y : ◌≡◌ {A = ℕ} 0 1 = cc in absurd (omega arith)
+    kind empty q = cc
     kind (opened c) q = refl
-    kind (sealed d c) q = let y : ◌≡◌ {A = ℕ} 0 1 = cc in absurd (omega arith)
-
-    at : (b : Bool) → leb m.shape.slots s ≡ b → Ok t ≡ outcome (refuse b BadSlot None) (state_of (m.slot s)) → Unsealed m s
-    at true q r = let y : ◌≡◌ {A = ℕ} 0 1 = cc in absurd (omega arith)
-    at false q r = let y : t ≡ state_of (m.slot s) = cc in record { slot = leb-false m.shape.slots s q; unsealed = kind (m.slot s) (sym y ∙ e) }
+    kind (sealed d c) q = cc
 
 module _ (l : Layout) (K : Coding) (b : Meaning) (L : Lawful b) (F : Fits l b.shape) (s : ℕ) (u : Unsealed b s) where
   -- an open slot of the level has the cells beneath
   level_cells : (n p : ℕ) → p < l.k * l.lanes → cells_of (level_slot l K.whole (b.slot s)) n p ≡ cells_of (b.slot s) n p
-  level_cells n p g = at (b.slot s) u.unsealed (L.slots s)
+  level_cells n p g =
+      by_open (λ z. LawfulSlot b.shape b.covers z → cells_of (level_slot l K.whole z) n p ≡ cells_of z n p)
+      (λ c t. ⊎_elim
+      (λ h. cond-true (inside l n p) (c n p) None (is_inside l n p h g))
+      (λ h. nothing (inside l n p) (c n p) (none_is (c n p) (false_from_ne_true _ (λ y. let z = (t.within n p y).0 in omega (arith, z, F.nodes)))))
+      (cases_lt n l.nodes))
+      (b.slot s) u.unsealed (L.slots s)
     where
-      at : (z : Slot) → is_open z ≡ true → LawfulSlot b.shape b.covers z → cells_of (level_slot l K.whole z) n p ≡ cells_of z n p
-      at empty e t = absurd (false≢true e)
-      at (sealed d c) e t = absurd (false≢true e)
-      at (opened c) e t = ⊎_elim
-          (λ h. cond-true (inside l n p) (c n p) None (is_inside l n p h g))
-          (λ h. nothing (inside l n p) (c n p) (none_is (c n p) (outside h)))
-          (cases_lt n l.nodes)
-        where
-          nothing : (q : Bool) (x : Option Block) → x ≡ None → cond q x None ≡ x
-          nothing true x e = refl
-          nothing false x e = sym e
-
-          outside : l.nodes ≤ n → is_some (c n p) ≡ false
-          outside h = ⊎_elim (λ y. let z = (t.within n p y).0 in absurd (omega (arith, z, F.nodes))) (λ y. y) (cases_Bool (is_some (c n p)))
+      nothing : (q : Bool) (x : Option Block) → x ≡ None → cond q x None ≡ x
+      nothing true x e = refl
+      nothing false x e = sym e
 
   level_open : is_open (level_slot l K.whole (b.slot s)) ≡ true
   level_open = same_open l K (b.slot s) ∙ u.unsealed
@@ -133,7 +128,9 @@ module _ (l : Layout) (K : Coding) (D : Law l K) (b b' b'' : Meaning) (L : Lawfu
 
   -- the level's cells are those that it had open
   sealed_same : (n p : ℕ) → sealed_cells l K.whole c' n p ≡ cells_of (level_slot l K.whole (b.slot s)) n p
-  sealed_same n p = opened_cells (b.slot s) r.unsealed.unsealed at
+  sealed_same n p =
+      by_open (λ z. (inside l n p ≡ true → option_or (c' n p) word ≡ cells_of z n p) → sealed_cells l K.whole c' n p ≡ cells_of (level_slot l K.whole z) n p)
+      (λ y. under (inside l n p) _ _) (b.slot s) r.unsealed.unsealed at
     where
       word : Option Block
       word = restored l K.whole (held_of l c' (stripe_of l n p)) (block_of l p)
@@ -147,15 +144,9 @@ module _ (l : Layout) (K : Coding) (D : Law l K) (b b' b'' : Meaning) (L : Lawfu
           let z = inside_is l n p i in
           some_first (c' n p) word (ap is_some (data_is n p z.1) ∙ complete n p z.0 z.1) ∙ data_is n p z.1
 
-      opened_cells : (z : Slot) → is_open z ≡ true → (inside l n p ≡ true → option_or (c' n p) word ≡ cells_of z n p)
-          → sealed_cells l K.whole c' n p ≡ cells_of (level_slot l K.whole z) n p
-      opened_cells empty e f = absurd (false≢true e)
-      opened_cells (sealed d y) e f = absurd (false≢true e)
-      opened_cells (opened y) e f = under (inside l n p) _ _ f
-        where
-          under : (t : Bool) (u v : Option Block) → (t ≡ true → u ≡ v) → cond t u None ≡ cond t v None
-          under true u v f = f refl
-          under false u v f = refl
+      under : (t : Bool) (u v : Option Block) → (t ≡ true → u ≡ v) → cond t u None ≡ cond t v None
+      under true u v f = f refl
+      under false u v f = refl
 
   seal_means : SealAnswer (level l K.whole b) s x (level l K.whole b'')
   seal_means = subst (λ y. SealAnswer (level l K.whole b) s y (level l K.whole b'')) (sym seal_accepted)
@@ -179,24 +170,16 @@ module _ (l : Layout) (K : Coding) (D : Law l K) (b b' b'' : Meaning) (L : Lawfu
             let e' : c' (node_of l st i) (place_of l st i) ≡ Some z = (kept (ltb i (l.k + l.m)) (c' (node_of l st i) (place_of l st i)) z e).1 in
             ⊎_elim
             (λ g. D.completes.has h all full i z lt (cond-true (ltb i l.k) (at i) None (lt-ltb i l.k g) ∙ sym (data_is (node_of l st i) (place_of l st i) (place_within l st i l.k A g)) ∙ e'))
-            (λ g. some_same (ap₂ (λ u v. Some (K.whole (data_of l c u) v)) (sym (stripe_on l st i A lt)) (sym (block_on l st i A.lane))
+            (λ g. same_Some _ _ (ap₂ (λ u v. Some (K.whole (data_of l c u) v)) (sym (stripe_on l st i A lt)) (sym (block_on l st i A.lane))
             ∙ sym (check_is (node_of l st i) (place_of l st i) (node_within l st i A) (check_above l st i g) (place_within l st i (l.k + l.m) A lt)) ∙ e'))
             (cases_lt i l.k);
       }
     where
       some_if_data : (i : ℕ) (o : Option Block) → (i < l.k → is_some o ≡ true) → is_some (cond (ltb i l.k) o None) ≡ ltb i l.k
-      some_if_data i o f = ⊎_elim
-          (λ lt. ap is_some (cond-true (ltb i l.k) o None (lt-ltb i l.k lt)) ∙ f lt ∙ sym (lt-ltb i l.k lt))
-          (λ le. ap is_some (cond-false (ltb i l.k) o None (le-ltb i l.k le)) ∙ sym (le-ltb i l.k le))
-          (cases_lt i l.k)
+      some_if_data i o f = some_under (ltb i l.k) o (λ e. f (ltb-true i l.k e))
 
       blocks_of : (n p : ℕ) (z : Block) → c n p ≡ Some z → IsBlock z
-      blocks_of n p z e = at (b.slot s) r.unsealed.unsealed (L.slots s) e
-        where
-          at : (y : Slot) → is_open y ≡ true → LawfulSlot b.shape b.covers y → cells_of y n p ≡ Some z → IsBlock z
-          at empty o t e = absurd (false≢true o)
-          at (opened d) o t e = t.blocks n p z e
-          at (sealed d y) o t e = absurd (false≢true o)
+      blocks_of n p z e = by_open (λ y. LawfulSlot b.shape b.covers y → cells_of y n p ≡ Some z → IsBlock z) (λ d t. t.blocks n p z) (b.slot s) r.unsealed.unsealed (L.slots s) e
 
   seal_laid : Laid l K b''
   seal_laid = subst (Laid l K) (sym after_is) (laid_with l K b s (sealed no_nodes c') a stripe_word)

@@ -1,19 +1,17 @@
 -- Writing the checks of a slot, one after the other. Assumes nothing.
 use Rattle.std.proofs.Common.{◌≡◌, ℕ, ◌+◌, ◌*◌, ◌<◌, Bool, true, false, cond, ◌&&◌, eqb, ltb, ◌⊎◌, List, Some, None, sym, refl, ap, ◌∙◌, subst, ap₂, inl, inr, ⊎_elim, arith}
 use mathlib.Core.Path.{fun_ext}
-use Rattle.std.proofs.lemmas.Bool.{ltb-true, eq-eqb, eqb-true, cond-true, cond-false, cases_lt, cases_Bool, and_parts, and_from, false≢true}
+use Rattle.std.proofs.lemmas.Bool.{ltb-true, eq-eqb, eqb-true, cond-true, cond-false, cases_lt, cases_Bool, and_parts, and_from}
 use Rattle.block.specs.Block.{Block, Blocks, Held}
-use Rattle.code.specs.Word.{Coding}
 use Rattle.store.specs.Meaning.{Slot, Meaning}
-use Rattle.store.specs.Meaning.Slot.{empty, opened, sealed}
+use Rattle.store.specs.Meaning.Slot.{opened}
 use Rattle.store.specs.Calls.{is_open, cells_of, with_slot, with_cell}
 use Rattle.stripe_map.specs.declared.layout.Layout.{Layout}
 use Rattle.stripe_map.specs.declared.layout.Stripe.{Stripe}
 use Rattle.stripe_map.specs.Map.{node_of, place_of, stripe_of, block_of, Among}
 use Rattle.stripe_map.proofs.Back.{stripe_among, place_within}
-use Rattle.level.specs.Level.{Laid}
-use Rattle.level.specs.Checks.{Ready, CheckPlace, data_of, check_at, checked_one, Written, NodeTo, NodesTo}
-use Rattle.level.proofs.Passing.{laid_with}
+use Rattle.level.specs.Checks.{Ready, CheckPlace, data_of, check_at, OneCheck, checked_one, Written, NodeTo, NodesTo}
+use Rattle.level.proofs.Ways.{by_open, by_slots}
 
 abbrev OnChecks : Layout → (ℕ → ℕ → Type 0) → Type 0
 OnChecks l D = (n p : ℕ) → D n p → CheckPlace l n p
@@ -23,23 +21,18 @@ slot_at m s x = cond-true (eqb s s) x (m.slot s) (eq-eqb s s refl)
 
 -- the later of two changes of a slot
 pub twice : (m : Meaning) (s : ℕ) (x y : Slot) → with_slot (with_slot m s x) s y ≡ with_slot m s y
-twice m s x y = λ i. record { shape = m.shape; covers = m.covers; slot = λ t. at (eqb t s) (m.slot t) i }
+twice m s x y = by_slots m _ _ (λ t. at (eqb t s) (m.slot t))
   where
     at : (q : Bool) (z : Slot) → cond q y (cond q x z) ≡ cond q y z
     at true z = refl
     at false z = refl
 
 unchanged : (m : Meaning) (s : ℕ) → is_open (m.slot s) ≡ true → m ≡ with_slot m s (opened (cells_of (m.slot s)))
-unchanged m s o = λ i. record { shape = m.shape; covers = m.covers; slot = λ t. at t (eqb t s) refl i }
+unchanged m s o = by_slots m _ _ (λ t. at t (eqb t s) refl)
   where
-    whole_slot : (z : Slot) → is_open z ≡ true → z ≡ opened (cells_of z)
-    whole_slot empty e = absurd (false≢true e)
-    whole_slot (opened c) e = refl
-    whole_slot (sealed d c) e = absurd (false≢true e)
-
     at : (t : ℕ) (q : Bool) → eqb t s ≡ q → m.slot t ≡ cond q (opened (cells_of (m.slot s))) (m.slot t)
     at t false e = refl
-    at t true e = ap m.slot (eqb-true t s e) ∙ whole_slot (m.slot s) o
+    at t true e = ap m.slot (eqb-true t s e) ∙ by_open (λ z. z ≡ opened (cells_of z)) (λ c. refl) (m.slot s) o
 
 module _ (l : Layout) (whole : Held → Blocks) (s : ℕ) where
   module _ (D : ℕ → ℕ → Type 0) (on : OnChecks l D) (m m' : Meaning) (w : Written l whole D s m m') where
@@ -60,24 +53,18 @@ module _ (l : Layout) (whole : Held → Blocks) (s : ℕ) where
     pub open_still : is_open (m'.slot s) ≡ true
     open_still = ap (λ x. is_open (x.slot s)) w.same ∙ ap is_open (slot_at m s (opened (cells_of (m'.slot s))))
 
-    pub ready_still : (bytes : List ℕ) → Ready l m s bytes → Ready l m' s bytes
+    ready_still : (bytes : List ℕ) → Ready l m s bytes → Ready l m' s bytes
     ready_still bytes r = record {
       unsealed = record { slot = subst (λ x. s < x.shape.slots) (sym w.same) r.unsealed.slot; unsealed = open_still };
       read = λ x y x< xn y<. data_same x y y< ∙ r.read x y x< xn y<;
     }
 
-    pub laid_still : (K : Coding) → Laid l K m → Laid l K m'
-    laid_still K a = subst (Laid l K) (sym w.same) (laid_with l K m s (opened (cells_of (m'.slot s))) a tt)
-
   -- nothing is written
   written_none : (D : ℕ → ℕ → Type 0) (m : Meaning) → ((n p : ℕ) → D n p → ⊥) → is_open (m.slot s) ≡ true → Written l whole D s m m
   written_none D m no_d o = record { same = unchanged m s o; others = λ n p h. refl; checks = λ n p d. absurd (no_d n p d) }
 
-  abbrev One : ℕ → ℕ → ℕ → ℕ → Type 0
-  One x y n p = CheckPlace l n p × (n ≡ x) × (p ≡ y)
-
   -- one check is
-  written_one : (m m' : Meaning) (x y : ℕ) → CheckPlace l x y → m' ≡ checked_one l whole m s x y → Written l whole (One x y) s m m'
+  pub written_one : (m m' : Meaning) (x y : ℕ) → CheckPlace l x y → m' ≡ checked_one l whole m s x y → Written l whole (OneCheck l x y) s m m'
   written_one m m' x y at e = record {
     same = e ∙ ap (λ c. with_slot m s (opened c)) (sym cells);
     others = λ n p h. ap (λ c. c n p) cells ∙ cond-false (eqb n x && eqb p y) (Some here) (cells_of (m.slot s) n p) (other n p h);
@@ -91,7 +78,7 @@ module _ (l : Layout) (whole : Held → Blocks) (s : ℕ) where
       cells : cells_of (m'.slot s) ≡ with_cell (cells_of (m.slot s)) x y (Some (check_at l whole (cells_of (m.slot s)) x y))
       cells = ap (λ z. cells_of (z.slot s)) e ∙ ap cells_of (slot_at m s (opened (with_cell (cells_of (m.slot s)) x y (Some (check_at l whole (cells_of (m.slot s)) x y)))))
 
-      other : (n p : ℕ) → (One x y n p → ⊥) → (eqb n x && eqb p y) ≡ false
+      other : (n p : ℕ) → (OneCheck l x y n p → ⊥) → (eqb n x && eqb p y) ≡ false
       other n p h = ⊎_elim
           (λ t.
           let z = and_parts (eqb n x) (eqb p y) t in
@@ -125,10 +112,12 @@ module _ (l : Layout) (whole : Held → Blocks) (s : ℕ) where
   pub node_none : (x y : ℕ) (m : Meaning) → y ≡ l.k * l.lanes → is_open (m.slot s) ≡ true → Written l whole (NodeTo l x y) s m m
   node_none x y m e o = written_none (NodeTo l x y) m (λ n p d. let z = d.0.least in let u = d.2 in omega arith) o
 
-  pub node_more : (x y : ℕ) (m m' m'' : Meaning) → CheckPlace l x y → Written l whole (NodeTo l x y) s m m' → m'' ≡ checked_one l whole m' s x y
-      → Written l whole (NodeTo l x (y + 1)) s m m''
-  node_more x y m m' m'' at w e =
-      written_both (NodeTo l x y) (One x y) (NodeTo l x (y + 1)) m m' m'' (on_node x y) (λ n p d. d.0) w (written_one m' m'' x y at e)
+  -- a call writes a check more of a node, where the level is ready
+  pub node_more : (x y : ℕ) (m m' m'' : Meaning) (bytes : List ℕ) → Ready l m s bytes → Written l whole (NodeTo l x y) s m m'
+      → (Ready l m' s bytes → Written l whole (OneCheck l x y) s m' m'') → Written l whole (NodeTo l x (y + 1)) s m m''
+  node_more x y m m' m'' bytes r w call =
+      let on = on_node x y in
+      written_both (NodeTo l x y) (OneCheck l x y) (NodeTo l x (y + 1)) m m' m'' on (λ n p d. d.0) w (call (ready_still (NodeTo l x y) on m m' w bytes r))
       (λ n p d. let u = d.2 in ⊎_elim
       (λ lt. inl ((d.0, d.1, lt), λ o. let z = o.2 in omega arith))
       (λ le. inr (d.0, d.1, omega arith))
@@ -139,10 +128,12 @@ module _ (l : Layout) (whole : Held → Blocks) (s : ℕ) where
   pub nodes_none : (m : Meaning) → is_open (m.slot s) ≡ true → Written l whole (NodesTo l 0) s m m
   nodes_none m o = written_none (NodesTo l 0) m (λ n p d. let u = d.1 in omega arith) o
 
-  pub nodes_more : (x : ℕ) (m m' m'' : Meaning) → Written l whole (NodesTo l x) s m m' → Written l whole (NodeTo l x ((l.k + l.m) * l.lanes)) s m' m''
-      → Written l whole (NodesTo l (x + 1)) s m m''
-  nodes_more x m m' m'' w r =
-      written_both (NodesTo l x) (NodeTo l x ((l.k + l.m) * l.lanes)) (NodesTo l (x + 1)) m m' m'' (on_nodes x) (on_node x ((l.k + l.m) * l.lanes)) w r
+  -- or those of a node more
+  pub nodes_more : (x : ℕ) (m m' m'' : Meaning) (bytes : List ℕ) → Ready l m s bytes → Written l whole (NodesTo l x) s m m'
+      → (Ready l m' s bytes → Written l whole (NodeTo l x ((l.k + l.m) * l.lanes)) s m' m'') → Written l whole (NodesTo l (x + 1)) s m m''
+  nodes_more x m m' m'' bytes r w call =
+      let end = (l.k + l.m) * l.lanes in
+      written_both (NodesTo l x) (NodeTo l x end) (NodesTo l (x + 1)) m m' m'' (on_nodes x) (on_node x end) w (call (ready_still (NodesTo l x) (on_nodes x) m m' w bytes r))
       (λ n p d. let u = d.1 in ⊎_elim
       (λ lt. inl ((d.0, lt), λ o. let z = o.1 in omega arith))
       (λ le. inr (d.0, omega arith, d.0.most))

@@ -74,6 +74,10 @@ pub record Written (l : Layout) (whole : Held → Blocks) (D : ℕ → ℕ → T
   pub others : (n p : ℕ) → (D n p → ⊥) → cells_of (m'.slot s) n p ≡ cells_of (m.slot s) n p
   pub checks : (n p : ℕ) → D n p → cells_of (m'.slot s) n p ≡ Some (check_at l whole (cells_of (m.slot s)) n p)
 
+-- the check place y of node x
+abbrev pub OneCheck : Layout → ℕ → ℕ → ℕ → ℕ → Type 0
+OneCheck l x y n p = CheckPlace l n p × (n ≡ x) × (p ≡ y)
+
 -- the check places of node x below place y
 abbrev pub NodeTo : Layout → ℕ → ℕ → ℕ → ℕ → Type 0
 NodeTo l x y n p = CheckPlace l n p × (n ≡ x) × (p < y)

@@ -1,22 +1,18 @@
 // Reading all data of an open slot, stripe after stripe.
-ghost use Rattle.std.specs.Prelude.{◌≡◌, ℕ, ◌+◌, ◌*◌, ◌<◌, ◌≤◌, length};
+ghost use Rattle.std.specs.Prelude.{◌≡◌, ◌+◌, ◌*◌, ◌<◌, ◌≤◌};
 ghost use Rattle.store.specs.Calls.{cells_of};
 ghost use Rattle.stripe_map.specs.Map.{Among};
-ghost use Rattle.level.specs.Level.{Fits};
-ghost use Rattle.level.specs.Checks.{start_of, position_of, Unsealed, Collected, NodeEnds, AllEnd};
+ghost use Rattle.level.specs.Checks.{start_of, position_of, Collected, NodeEnds, AllEnd};
 
+use crate::Spread;
 use block::BLOCK;
+use code::Code;
 use refusal::kind::Refusal;
 use store::Reading;
 use stripe_map::layout::{Layout, Stripe};
 
-// The bytes of all data.
-pub(crate) fn data_bytes(layout: &Layout) -> usize
-    ensures is { result ≡ layout.now.nodes * (layout.now.k * layout.now.lanes) * 64 }
-    ensures most { result ≤ 262144 }
-{
-    layout.nodes * layout.places() * BLOCK
-}
+// The most bytes of data that a level has: 64 nodes with 64 places. They are read into an array, since a store allocates nothing.
+pub(crate) const ROOM: usize = 4096 * BLOCK;
 
 // The number of a stripe's first block among all data.
 pub(crate) fn start(layout: &Layout, stripe: Stripe) -> usize
@@ -33,49 +29,32 @@ fn position(layout: &Layout, node: usize, place: usize) -> usize
     ensures is { result ≡ position_of layout.now node place }
     ensures within { result < layout.now.nodes * (layout.now.k * layout.now.lanes) }
 {
-    match layout.trace(node, place) {
-        Ok(member) => start(layout, member.stripe) + member.number,
-        Err(_) => 0,
-    }
+    let member = layout.trace(node, place).unwrap();
+    start(layout, member.stripe) + member.number
 }
 
-// Reads the cells of a node, up to the first that is absent.
-fn collect_node<S: Reading>(
-    below: &S,
-    layout: &Layout,
-    slot: usize,
-    node: usize,
-    bytes: &mut [u8],
-) -> Result<(), Refusal>
-    requires room { length bytes.old ≡ layout.now.nodes * (layout.now.k * layout.now.lanes) * 64 }
-    requires node { node < layout.now.nodes }
-    ensures { S.Reading.sound below.now → Fits layout.now (S.Reading.meaning below.now).shape → slot < (S.Reading.meaning below.now).shape.slots → Collected layout.now (cells_of ((S.Reading.meaning below.now).slot slot)) node bytes.old → NodeEnds layout.now (S.Reading.meaning below.now) slot node result bytes.new }
-{
-    for place in 0..layout.places() {
-        let at = position(layout, node, place) * BLOCK;
-        let answer = below.get(slot, node, place, &mut bytes[at..at + BLOCK]);
-        let Ok(()) = answer else {
-            return Err(Refusal::Incomplete { rank: node, place });
-        };
+impl<C: Code, S: Reading> Spread<C, S> {
+    // Reads the cells of a node, up to the first that is absent.
+    fn collect_node(&self, slot: usize, node: usize, bytes: &mut [u8; ROOM]) -> Result<(), Refusal>
+        requires { node < self.now.layout.nodes }
+        ensures { ⟦<Spread<C, S> as Reading>⟧.sound self.now → slot < (S.Reading.meaning self.now.below).shape.slots → Collected self.now.layout (cells_of ((S.Reading.meaning self.now.below).slot slot)) node bytes.old → NodeEnds self.now.layout (S.Reading.meaning self.now.below) slot node result bytes.new }
+    {
+        for place in 0..self.layout.places() {
+            let at = position(&self.layout, node, place) * BLOCK;
+            self.below
+                .get(slot, node, place, &mut bytes[at..at + BLOCK])
+                .map_err(|_| Refusal::Incomplete { rank: node, place })?;
+        }
+        Ok(())
     }
-    Ok(())
-}
 
-// Reads all the level's cells, up to the first that is absent.
-pub(crate) fn collect<S: Reading>(
-    below: &S,
-    layout: &Layout,
-    slot: usize,
-    bytes: &mut [u8],
-) -> Result<(), Refusal>
-    requires { length bytes.old ≡ layout.now.nodes * (layout.now.k * layout.now.lanes) * 64 }
-    ensures { S.Reading.sound below.now → Fits layout.now (S.Reading.meaning below.now).shape → slot < (S.Reading.meaning below.now).shape.slots → AllEnd layout.now (S.Reading.meaning below.now) slot result bytes.new }
-{
-    for node in 0..layout.nodes {
-        let answer = collect_node(below, layout, slot, node, bytes);
-        let Ok(()) = answer else {
-            return answer;
-        };
+    // Reads all the level's cells, up to the first that is absent.
+    pub(crate) fn collect(&self, slot: usize, bytes: &mut [u8; ROOM]) -> Result<(), Refusal>
+        ensures { ⟦<Spread<C, S> as Reading>⟧.sound self.now → slot < (S.Reading.meaning self.now.below).shape.slots → AllEnd self.now.layout (S.Reading.meaning self.now.below) slot result bytes.new }
+    {
+        for node in 0..self.layout.nodes {
+            self.collect_node(slot, node, bytes)?;
+        }
+        Ok(())
     }
-    Ok(())
 }

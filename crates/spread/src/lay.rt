@@ -1,7 +1,7 @@
 // Laying a level.
-ghost use Rattle.std.specs.Prelude.{◌≡◌, ℕ, ◌<◌, ◌≤◌};
+ghost use Rattle.std.specs.Prelude.{◌≡◌};
 ghost use Rattle.store.specs.Meaning.{vacant};
-ghost use Rattle.level.specs.Level.{level, new_level, Laid, Matches};
+ghost use Rattle.level.specs.Level.{new_level, Matches};
 
 use crate::Spread;
 use code::Code;
@@ -13,8 +13,7 @@ fn clear_all<S: Store>(below: &mut S)
     ensures sound { S.Reading.sound below.old → S.Reading.sound below.new }
     ensures cleared { S.Reading.sound below.old → S.Reading.meaning below.new ≡ vacant (S.Reading.meaning below.old).shape (S.Reading.meaning below.old).covers }
 {
-    let slots = below.shape().slots;
-    for slot in 0..slots {
+    for slot in 0..below.shape().slots {
         let _ = below.clear(slot);
     }
 }
@@ -23,8 +22,8 @@ fn clear_all<S: Store>(below: &mut S)
 pub fn lay<C: Code, S: Store>(layout: Layout, code: C, below: S) -> Spread<C, S>
     ensures layout { result.layout ≡ layout }
     ensures code { result.code ≡ code }
-    ensures laid { S.Reading.sound below → Matches layout (C.Code.coding code) (S.Reading.meaning below).shape → S.Reading.sound result.below × Laid result.layout (C.Code.coding result.code) (S.Reading.meaning result.below) }
-    ensures means { S.Reading.sound below → level result.layout (C.Code.coding result.code).whole (S.Reading.meaning result.below) ≡ new_level layout (S.Reading.meaning below) }
+    ensures laid { S.Reading.sound below → Matches layout (C.Code.coding code) (S.Reading.meaning below).shape → ⟦<Spread<C, S> as Reading>⟧.sound result }
+    ensures means { S.Reading.sound below → ⟦<Spread<C, S> as Reading>⟧.meaning result ≡ new_level layout (S.Reading.meaning below) }
 {
     let mut below = below;
     clear_all(&mut below);

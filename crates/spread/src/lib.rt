@@ -1,8 +1,8 @@
 // A level: a code laid over a store, which is again a store.
 #![tactic(auto)]
 
-ghost use Rattle.std.specs.Prelude.{◌≡◌, ℕ, ◌+◌, ◌*◌, ◌<◌, ◌≤◌, None, OnErr, nat_le};
-ghost use Rattle.refusal.specs.Answer.{refuse};
+ghost use Rattle.std.specs.Prelude.{◌≡◌, ◌*◌, ◌<◌, None, OnErr, nat_le};
+ghost use Rattle.refusal.specs.Answer.{refuse, outcome};
 ghost use Rattle.refusal.specs.declared.kind.Refusal.TheVariants.{Node, Place};
 ghost use Rattle.store.specs.Calls.{GetAnswer, SealAnswer};
 ghost use Rattle.level.specs.Level.{level, Laid};
@@ -12,22 +12,18 @@ ghost use Rattle.level.proofs.Lawful.{level_lawful};
 
 mod collect;
 pub mod lay;
-mod pass;
 mod read;
-mod seal;
 mod write;
 
 use code::Code;
-use collect::data_bytes;
-use pass::{lose_node, open_slot, put_cell};
-use read::{is_missing, is_sealed, restore};
+use collect::ROOM;
 use refusal::kind::Refusal;
-use seal::seal_by;
 use store::kinds::{Shape, State};
 use store::{Reading, Store};
 use stripe_map::layout::Layout;
 
 // One code and one store, each of any make. Nobody but the level changes the store beneath.
+// That the parts fit is no fact of the type but what `sound` says, since a level may be read over what another one wrote.
 #[derive(Drop)]
 pub struct Spread<C, S> {
     layout: Layout,
@@ -35,19 +31,8 @@ pub struct Spread<C, S> {
     below: S,
 }
 
-// A node or a place that the level has not, though the store beneath may have it.
-fn beyond(layout: &Layout, node: usize, place: usize) -> Option<Refusal>
-    ensures { result ≡ refuse (nat_le layout.now.nodes node) Node (refuse (nat_le (layout.now.k * layout.now.lanes) place) Place None) }
-{
-    if node >= layout.nodes {
-        return Some(Refusal::Node);
-    }
-    if place >= layout.places() {
-        return Some(Refusal::Place);
-    }
-    None
-}
-
+// A slot, a node and a place are handed on apart, as every call of a store takes them. It is the same with the fact that the
+// slot is one of the store's: it stands with each call that takes a slot.
 impl<C: Code, S: Reading> Spread<C, S> {
     // The level's sizes. Of them, of the code and of the store beneath holds what a level promises.
     pub fn layout(&self) -> Layout
@@ -56,9 +41,20 @@ impl<C: Code, S: Reading> Spread<C, S> {
     {
         self.layout
     }
-}
 
-impl<C: Code, S: Reading> Spread<C, S> {
+    // Refuses a node or a place that the level has not, though the store beneath may have it.
+    fn refuse_beyond(&self, node: usize, place: usize) -> Result<(), Refusal>
+        ensures { result ≡ outcome (refuse (nat_le self.now.layout.nodes node) Node (refuse (nat_le (self.now.layout.k * self.now.layout.lanes) place) Place None)) tt }
+    {
+        if node >= self.layout.nodes {
+            return Err(Refusal::Node);
+        }
+        if place >= self.layout.places() {
+            return Err(Refusal::Place);
+        }
+        Ok(())
+    }
+
     // Gets one of the level's cells: what the store beneath answers, or in a sealed slot what the stripe gives.
     fn get_cell(
         &self,
@@ -69,14 +65,14 @@ impl<C: Code, S: Reading> Spread<C, S> {
     ) -> Result<(), Refusal>
         requires node { node < self.now.layout.nodes }
         requires place { place < self.now.layout.k * self.now.layout.lanes }
-        ensures { S.Reading.sound self.now.below → Laid self.now.layout (C.Code.coding self.now.code) (S.Reading.meaning self.now.below) → GetAnswer (level self.now.layout (C.Code.coding self.now.code).whole (S.Reading.meaning self.now.below)) slot node place out.old result out.new }
+        ensures { ⟦<Spread<C, S> as Reading>⟧.sound self.now → GetAnswer (⟦<Spread<C, S> as Reading>⟧.meaning self.now) slot node place out.old result out.new }
     {
-        let answer = self.below.get(slot, node, place, out);
-        if !is_missing(&answer) || !is_sealed(&self.below, slot) {
-            return answer;
+        match self.below.get(slot, node, place, out) {
+            Err(Refusal::Missing { .. }) if self.is_sealed(slot) => {
+                self.restore(slot, node, place, out)
+            }
+            answer => answer,
         }
-        let below = &self.below;
-        restore(below, &self.code, &self.layout, slot, node, place, out)
     }
 }
 
@@ -102,11 +98,9 @@ impl<C: Code, S: Reading> Reading for Spread<C, S> {
     ghost lawful = { λ x h. level_lawful x.layout (S.Reading.meaning x.below) (S.Reading.lawful x.below h.0) h.1.matches.fits (C.Code.coding x.code) (at_layout x.layout (C.Code.coding x.code) (S.Reading.meaning x.below).shape h.1.matches (C.Code.completes x.code) (C.Code.determines x.code)) };
 
     fn shape(&self) -> Shape {
-        let shape = self.below.shape();
         Shape {
-            nodes: shape.nodes,
             places: self.layout.places(),
-            slots: shape.slots,
+            ..self.below.shape()
         }
     }
 
@@ -115,59 +109,38 @@ impl<C: Code, S: Reading> Reading for Spread<C, S> {
     }
 
     fn get(&self, slot: usize, node: usize, place: usize, out: &mut [u8]) -> Result<(), Refusal> {
-        if let Some(refusal) = beyond(&self.layout, node, place) {
-            return Err(refusal);
-        }
+        self.refuse_beyond(node, place)?;
         self.get_cell(slot, node, place, out)
     }
 }
 
 impl<C: Code, S: Store> Store for Spread<C, S> {
     fn open(&mut self, slot: usize) -> Result<(), Refusal> {
-        open_slot(&mut self.below, &self.code, &self.layout, slot)
+        self.below.open(slot)
     }
 
     fn put(&mut self, slot: usize, node: usize, place: usize, block: &[u8]) -> Result<(), Refusal> {
-        if let Some(refusal) = beyond(&self.layout, node, place) {
-            return Err(refusal);
-        }
-        put_cell(
-            &mut self.below,
-            &self.code,
-            &self.layout,
-            slot,
-            node,
-            place,
-            block,
-        )
+        self.refuse_beyond(node, place)?;
+        self.below.put(slot, node, place, block)
     }
 
     // Writes every check, then seals beneath. Refused, it has written nothing.
     fn seal(&mut self, slot: usize) -> Result<(), Refusal>
-        ensures sound { S.Reading.sound self.old.below × Laid self.old.layout (C.Code.coding self.old.code) (S.Reading.meaning self.old.below) → S.Reading.sound self.new.below × Laid self.new.layout (C.Code.coding self.new.code) (S.Reading.meaning self.new.below) }
-        ensures means { S.Reading.sound self.old.below × Laid self.old.layout (C.Code.coding self.old.code) (S.Reading.meaning self.old.below) → SealAnswer (level self.old.layout (C.Code.coding self.old.code).whole (S.Reading.meaning self.old.below)) slot result (level self.new.layout (C.Code.coding self.new.code).whole (S.Reading.meaning self.new.below)) }
+        ensures sound { ⟦<Spread<C, S> as Reading>⟧.sound self.old → ⟦<Spread<C, S> as Reading>⟧.sound self.new }
+        ensures means { ⟦<Spread<C, S> as Reading>⟧.sound self.old → SealAnswer (⟦<Spread<C, S> as Reading>⟧.meaning self.old) slot result (⟦<Spread<C, S> as Reading>⟧.meaning self.new) }
         ensures untouched { S.Reading.sound self.old.below → Laid self.old.layout (C.Code.coding self.old.code) (S.Reading.meaning self.old.below) → OnErr result (self.new.below ≡ self.old.below) }
     {
-        match self.below.state(slot) {
-            Err(refusal) => return Err(refusal),
-            Ok(state) => match state {
-                State::Open => (),
-                _ => return Err(Refusal::SlotNotOpen),
-            },
+        if self.below.state(slot)? != State::Open {
+            return Err(Refusal::SlotNotOpen);
         }
-        let mut bytes = [0; 262144];
-        let room = data_bytes(&self.layout);
-        seal_by(
-            &mut self.below,
-            &self.code,
-            &self.layout,
-            slot,
-            &mut bytes[0..room],
-        )
+        let mut bytes = [0; ROOM];
+        self.collect(slot, &mut bytes)?;
+        self.write_checks(slot, &bytes);
+        self.below.seal(slot)
     }
 
     fn lose(&mut self, node: usize) -> Result<(), Refusal> {
-        lose_node(&mut self.below, &self.code, &self.layout, node)
+        self.below.lose(node)
     }
 
     fn clear(&mut self, slot: usize) -> Result<(), Refusal> {

@@ -1,143 +1,77 @@
 // Reading the blocks of a stripe, and rebuilding one of them.
-ghost use Rattle.std.specs.Prelude.{◌≡◌, ℕ, ◌+◌, ◌*◌, ◌<◌, ◌≤◌, not, ◌&&◌, length, if◌then◌else◌, Some, None, ◌==◌, nat_lt};
+ghost use Rattle.std.specs.Prelude.{◌≡◌, ◌+◌, ◌*◌, ◌<◌, ◌&&◌, length, if◌then◌else◌, nat_lt};
 ghost use Rattle.store.specs.Calls.{cells_of};
 ghost use Rattle.stripe_map.specs.Map.{Among};
-ghost use Rattle.level.specs.Level.{Fits, Laid, held_of};
-ghost use Rattle.level.specs.Stripes.{Gathered, RestoreAnswer, from_stripe, named, is_missing, is_sealed};
+ghost use Rattle.level.specs.Level.{held_of};
+ghost use Rattle.level.specs.Stripes.{Gathered, RestoreAnswer, from_stripe, is_sealed};
 
+use crate::Spread;
 use block::BLOCK;
 use code::Code;
 use refusal::kind::Refusal;
 use store::Reading;
 use store::kinds::State;
-use stripe_map::layout::{Layout, Stripe};
+use stripe_map::layout::Stripe;
 
-// Reads a block of a stripe, and answers 1, or 0 where there is none.
-fn fetch<S: Reading>(
-    below: &S,
-    layout: &Layout,
-    slot: usize,
-    stripe: Stripe,
-    number: usize,
-    out: &mut [u8],
-) -> u8
-    ensures { S.Reading.sound below.now → Fits layout.now (S.Reading.meaning below.now).shape → slot < (S.Reading.meaning below.now).shape.slots → Among layout.now stripe → number < layout.now.k + layout.now.m → length out.old ≡ 64 → (if not (result == 0) then Some out.new else None) ≡ held_of layout.now (cells_of ((S.Reading.meaning below.now).slot slot)) stripe number }
-{
-    let Ok(at) = layout.locate(stripe, number) else {
-        return 0;
-    };
-    match below.get(slot, at.node, at.place, out) {
-        Ok(()) => 1,
-        Err(_) => 0,
+// The most blocks that a stripe has.
+const WIDEST: usize = 16;
+
+impl<C: Code, S: Reading> Spread<C, S> {
+    // Reads a block of a stripe, and tells whether there is one. A flag beside the block, which goes straight to its place in
+    // the stripe: an Option would copy it once more.
+    fn fetch(&self, slot: usize, stripe: Stripe, number: usize, out: &mut [u8]) -> bool
+        requires stripe { Among self.now.layout stripe }
+        requires number { number < self.now.layout.k + self.now.layout.m }
+        requires size { length out.old ≡ BLOCK }
+        ensures { ⟦<Spread<C, S> as Reading>⟧.sound self.now → slot < (S.Reading.meaning self.now.below).shape.slots → (if result then Some out.new else None) ≡ held_of self.now.layout (cells_of ((S.Reading.meaning self.now.below).slot slot)) stripe number }
+    {
+        let at = self.layout.locate(stripe, number).unwrap();
+        self.below.get(slot, at.node, at.place, out).is_ok()
     }
-}
 
-// Reads as many blocks of a stripe as there are marks.
-fn gather<S: Reading>(
-    below: &S,
-    layout: &Layout,
-    slot: usize,
-    stripe: Stripe,
-    marks: &mut [u8],
-    blocks: &mut [u8],
-)
-    requires { length blocks.old ≡ length marks.old * 64 }
-    ensures { S.Reading.sound below.now → Fits layout.now (S.Reading.meaning below.now).shape → slot < (S.Reading.meaning below.now).shape.slots → Among layout.now stripe → length marks.old ≤ layout.now.k + layout.now.m → Gathered layout.now (S.Reading.meaning below.now) slot stripe (length marks.old) marks.new blocks.new }
-{
-    for number in 0..marks.len() {
-        let at = number * BLOCK;
-        marks[number] = fetch(
-            below,
-            layout,
-            slot,
-            stripe,
-            number,
-            &mut blocks[at..at + BLOCK],
-        );
+    // Reads all blocks of a stripe, each with its mark.
+    fn gather(&self, slot: usize, stripe: Stripe, marks: &mut [u8], blocks: &mut [u8])
+        requires stripe { Among self.now.layout stripe }
+        requires marks { length marks.old ≡ self.now.layout.k + self.now.layout.m }
+        requires blocks { length blocks.old ≡ length marks.old * BLOCK }
+        ensures { ⟦<Spread<C, S> as Reading>⟧.sound self.now → slot < (S.Reading.meaning self.now.below).shape.slots → Gathered self.now.layout (S.Reading.meaning self.now.below) slot stripe (self.now.layout.k + self.now.layout.m) marks.new blocks.new }
+    {
+        // Each block is cut out by hand: of what is written through a zip of two slices nothing is known afterwards.
+        for (number, mark) in marks.iter_mut().enumerate() {
+            let at = number * BLOCK;
+            *mark = u8::from(self.fetch(slot, stripe, number, &mut blocks[at..at + BLOCK]));
+        }
     }
-}
 
-// The code's refusal as one that names the cell.
-fn name_cell(answer: Result<(), Refusal>, node: usize, place: usize) -> Result<(), Refusal>
-    ensures { result ≡ named node place answer }
-{
-    match answer {
-        Ok(()) => Ok(()),
-        Err(_) => Err(Refusal::Missing { node, place }),
+    // Rebuilds a cell from its stripe.
+    pub(crate) fn restore(
+        &self,
+        slot: usize,
+        node: usize,
+        place: usize,
+        out: &mut [u8],
+    ) -> Result<(), Refusal>
+        requires node { node < self.now.layout.nodes }
+        requires place { place < self.now.layout.k * self.now.layout.lanes }
+        ensures { ⟦<Spread<C, S> as Reading>⟧.sound self.now → slot < (S.Reading.meaning self.now.below).shape.slots → length out.old ≡ BLOCK → RestoreAnswer (from_stripe self.now.layout (C.Code.coding self.now.code) (S.Reading.meaning self.now.below) slot node place) node place out.old result out.new }
+    {
+        // Arrays with room for the widest stripe, since a store allocates nothing. The code takes exact parts, marks as bytes.
+        let mut marks = [0; WIDEST];
+        let mut blocks = [0; WIDEST * BLOCK];
+        let width = self.layout.width();
+        let marks = &mut marks[..width];
+        let blocks = &mut blocks[..width * BLOCK];
+        let member = self.layout.trace(node, place).unwrap();
+        self.gather(slot, member.stripe, marks, blocks);
+        self.code
+            .rebuild(member.number, marks, blocks, out)
+            .map_err(|_| Refusal::Missing { node, place })
     }
-}
 
-// Rebuilds a cell from its stripe, with room for the stripe.
-fn restore_by<C: Code, S: Reading>(
-    below: &S,
-    code: &C,
-    layout: &Layout,
-    slot: usize,
-    node: usize,
-    place: usize,
-    marks: &mut [u8],
-    blocks: &mut [u8],
-    out: &mut [u8],
-) -> Result<(), Refusal>
-    requires marks { length marks.old ≡ layout.now.k + layout.now.m }
-    requires blocks { length blocks.old ≡ (layout.now.k + layout.now.m) * 64 }
-    ensures { S.Reading.sound below.now → Laid layout.now (C.Code.coding code.now) (S.Reading.meaning below.now) → slot < (S.Reading.meaning below.now).shape.slots → node < layout.now.nodes → place < layout.now.k * layout.now.lanes → length out.old ≡ 64 → RestoreAnswer (from_stripe layout.now (C.Code.coding code.now) (S.Reading.meaning below.now) slot node place) node place out.old result out.new }
-{
-    let Ok(member) = layout.trace(node, place) else {
-        return Err(Refusal::Missing { node, place });
-    };
-    gather(below, layout, slot, member.stripe, marks, blocks);
-    let answer = code.rebuild(member.number, marks, blocks, out);
-    name_cell(answer, node, place)
-}
-
-// Rebuilds a cell from its stripe.
-pub(crate) fn restore<C: Code, S: Reading>(
-    below: &S,
-    code: &C,
-    layout: &Layout,
-    slot: usize,
-    node: usize,
-    place: usize,
-    out: &mut [u8],
-) -> Result<(), Refusal>
-    ensures { S.Reading.sound below.now → Laid layout.now (C.Code.coding code.now) (S.Reading.meaning below.now) → slot < (S.Reading.meaning below.now).shape.slots → node < layout.now.nodes → place < layout.now.k * layout.now.lanes → length out.old ≡ 64 → RestoreAnswer (from_stripe layout.now (C.Code.coding code.now) (S.Reading.meaning below.now) slot node place) node place out.old result out.new }
-{
-    let mut marks = [0; 16];
-    let mut blocks = [0; 1024];
-    let width = layout.width();
-    restore_by(
-        below,
-        code,
-        layout,
-        slot,
-        node,
-        place,
-        &mut marks[0..width],
-        &mut blocks[0..width * BLOCK],
-        out,
-    )
-}
-
-// Whether a cell was refused as absent or a gap.
-pub(crate) fn is_missing(answer: &Result<(), Refusal>) -> bool
-    ensures { result ≡ is_missing answer.now }
-{
-    match answer {
-        Ok(()) => false,
-        Err(refusal) => refusal.number() == 7,
-    }
-}
-
-// Whether a slot is sealed.
-pub(crate) fn is_sealed<S: Reading>(below: &S, slot: usize) -> bool
-    ensures { S.Reading.sound below.now → result ≡ (nat_lt slot (S.Reading.meaning below.now).shape.slots && is_sealed ((S.Reading.meaning below.now).slot slot)) }
-{
-    match below.state(slot) {
-        Ok(state) => match state {
-            State::Sealed => true,
-            _ => false,
-        },
-        Err(_) => false,
+    // Whether a slot is sealed.
+    pub(crate) fn is_sealed(&self, slot: usize) -> bool
+        ensures { ⟦<Spread<C, S> as Reading>⟧.sound self.now → result ≡ (nat_lt slot (S.Reading.meaning self.now.below).shape.slots && is_sealed ((S.Reading.meaning self.now.below).slot slot)) }
+    {
+        matches!(self.below.state(slot), Ok(State::Sealed))
     }
 }

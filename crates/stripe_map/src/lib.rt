@@ -20,13 +20,13 @@ impl Layout {
     pub fn new(shape: Shape, sizes: Sizes, group: usize, lanes: usize) -> Result<Layout, Refusal>
         ensures { Makes (fits_over shape sizes group lanes) (Laid_out shape sizes group lanes) result }
     {
-        if !shape.is_admitted() || sizes.k < 1 || sizes.k > 12 || sizes.m < 1 || sizes.m > 4 {
-            return Err(Refusal::Sizes);
-        }
-        if lanes < 1 || lanes > 64 || group < sizes.k + sizes.m {
-            return Err(Refusal::Sizes);
-        }
-        if shape.nodes % group != 0 || (sizes.k + sizes.m) * lanes != shape.places {
+        if !shape.is_admitted()
+            || !sizes.is_admitted()
+            || !(1..=64).contains(&lanes)
+            || group < sizes.k + sizes.m
+            || shape.nodes % group != 0
+            || (sizes.k + sizes.m) * lanes != shape.places
+        {
             return Err(Refusal::Sizes);
         }
         Ok(Layout {
@@ -54,6 +54,7 @@ impl Layout {
     }
 
     // Where a block of a stripe lies.
+    #[tactic(auto, unfolding(crate::specs::Map::node_of, crate::specs::Map::place_of))]
     pub fn locate(&self, stripe: Stripe, number: usize) -> Result<Address, Refusal>
         ensures { result ≡ outcome (locate_refusal self.now stripe number) (address_of self.now stripe number) }
     {
@@ -71,6 +72,7 @@ impl Layout {
     }
 
     // Which block of which stripe lies at a node and a place.
+    #[tactic(auto, unfolding(crate::specs::Map::stripe_of, crate::specs::Map::block_of))]
     pub fn trace(&self, node: usize, place: usize) -> Result<Member, Refusal>
         ensures { result ≡ outcome (trace_refusal self.now node place) (member_of self.now node place) }
     {
