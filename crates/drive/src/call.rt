@@ -44,11 +44,11 @@ impl Call {
                 place: *place,
             }),
             ("open", [slot]) => Some(Call::Open { slot: *slot }),
-            ("put", [slot, node, place, byte]) if *byte < 256 => Some(Call::Put {
+            ("put", [slot, node, place, byte]) => Some(Call::Put {
                 slot: *slot,
                 node: *node,
                 place: *place,
-                byte: *byte as u8,
+                byte: u8::try_from(*byte).ok()?,
             }),
             ("seal", [slot]) => Some(Call::Seal { slot: *slot }),
             ("lose", [node]) => Some(Call::Lose { node: *node }),
@@ -59,15 +59,14 @@ impl Call {
 
     // Whether the call is answered by bytes. No contract: it only chooses what is printed.
     pub fn reads(&self) -> bool {
-        match self {
-            Call::State { .. } | Call::Get { .. } => true,
-            _ => false,
-        }
+        matches!(self, Call::State { .. } | Call::Get { .. })
     }
 
-    // Makes the call. A block, or the number of a state, goes to the buffer. No contract: each call of a store has its own; that
-    // the right one is made, with its numbers in order, is only tested, by the stored run.
+    // Makes the call. A block, or the number of a state, goes to the buffer, which is handed in so that it can be compared after a
+    // refusal too. No contract: each call of a store has its own; that the right one is made, with its numbers in order, is only
+    // tested, by the stored run.
     pub fn make<S: Store>(&self, store: &mut S, out: &mut [u8; 64]) -> Result<(), Refusal> {
+        // A match and no closures: a call comes as text, and the same one is made on two stores.
         match *self {
             Call::State { slot } => {
                 out[0] = store.state(slot)?.number();

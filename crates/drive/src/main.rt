@@ -12,7 +12,7 @@ use image_reader::reader::ImageReader;
 use refusal::kind::Refusal;
 use std::io;
 use store::kinds::Shape;
-use words::read_number;
+use words::{read_number, words_of};
 
 const SHAPE: Shape = Shape {
     nodes: 3,
@@ -46,18 +46,15 @@ fn answer(
 
 // The call that a line asks for.
 fn read(rt: &HostRuntime, line: &str) -> io::Result<Option<Call>> {
-    let words: Vec<&str> = line.split(' ').collect(rt.alloc())?;
+    let words = words_of(rt.alloc(), line)?;
     let [name, rest @ ..] = words.as_slice() else {
         return Ok(None);
     };
-    let mut numbers = Vec::new(rt.alloc());
-    for word in rest {
-        let Some(number) = read_number(*word) else {
-            return Ok(None);
-        };
-        numbers.push(number)?;
-    }
-    Ok(Call::named(*name, numbers.as_slice()))
+    let numbers: Option<Vec<usize>> = rest
+        .iter()
+        .map(|word| read_number(*word))
+        .collect(rt.alloc())?;
+    Ok(numbers.and_then(|numbers| Call::named(*name, numbers.as_slice())))
 }
 
 // Makes the call of a line.

@@ -1,47 +1,46 @@
--- The cells that an image holds, one more. Assumes nothing.
-use Rattle.std.proofs.Common.{◌≡◌, ℕ, ◌+◌, ◌<◌, Bool, true, false, not, leb, List, is_some, is_ok, Some, None, Ok, Err, Result, sym, refl, ap, ◌∙◌, add-one, arith, Bor}
-use Rattle.std.proofs.lemmas.Bool.{lt-leb}
-use Rattle.refusal.specs.declared.kind.Refusal.{Refusal}
-use Rattle.refusal.specs.declared.kind.Refusal.TheVariants.{Node, Place, Slot as BadSlot, Missing}
-use Rattle.refusal.specs.Answer.{refuse}
-use Rattle.refusal.proofs.Turning.{refuse_later}
+-- The cells that an image holds, counted over its nodes and places. Assumes nothing.
+use Rattle.std.proofs.Common.{◌≡◌, ℕ, zero, suc, ◌+◌, ◌*◌, ◌^◌, ◌<◌, ◌≤◌, Bool, true, false, cond, [], ◌∷◌, ◌++◌, length, filter, map, sum, refl, ap, ◌∙◌, add-one, add-mul, one-mul, zero-add, length-append, arith}
+use Rattle.std.proofs.lemmas.List.{map-append, map-id}
+use Rattle.std.proofs.lemmas.List.Elements.{filter-append}
+use Rattle.std.proofs.lemmas.List.Sums.{fold-append}
+use Rattle.std.proofs.lemmas.Nat.{mul-le}
+use Rattle.std.proofs.lemmas.List.FromFn.{map-range_with_len_more}
+use Rattle.std.specs.List.{range_with_len}
 use Rattle.block.specs.Count.{count}
-use Rattle.block.proofs.Counts.{count_more, count_skip}
-use Rattle.store.specs.Meaning.{Slot, Meaning}
-use Rattle.store.specs.Meaning.Slot.{empty, opened, sealed}
-use Rattle.store.specs.Calls.{cells_of, cell_refusal}
+use Rattle.block.proofs.Counts.{count_le}
+use Rattle.store.specs.Meaning.{Limits}
 use Rattle.image_reader.specs.declared.reader.ImageReader.{ImageReader}
-use Rattle.image_reader.specs.Reader.{Hands}
-use Rattle.image.specs.Held.{of_node, of_nodes}
+use Rattle.image_reader.specs.Reader.{shape_of}
+use Rattle.image.specs.Held.{has, of_node, of_nodes}
 
--- a cell that is refused has no block
-no_block : (b : Bool) (g f : Refusal) → refuse (not b) g None ≡ Some f → b ≡ false
-no_block true g f e = let z : ◌≡◌ {A = ℕ} 0 1 = cc in absurd (omega arith)
-no_block false g f e = refl
+-- one number more
+range_more : (n : ℕ) → range_with_len 0 (suc n) ≡ range_with_len 0 n ++ n ∷ []
+range_more n = rw add-one at (simp map-id at (map-range_with_len_more (λ x. x) 0 n n (zero-add n)))
 
-gap : (x : Slot) (n p : ℕ) (f : Refusal) → cell_refusal x n p ≡ Some f → is_some (cells_of x n p) ≡ false
-gap empty n p f e = refl
-gap (opened c) n p f e = no_block (is_some (c n p)) (Missing n p) f e
-gap (sealed d c) n p f e = no_block (is_some (c n p)) (Missing n p) f e
+-- the numbers below n that pass a test
+pub passing : (test : ℕ → Bool) (n : ℕ) → length (filter test (range_with_len 0 n)) ≡ count test n
+passing test zero = refl
+passing test (suc n) =
+    ap (λ xs. length (filter test xs)) (range_more n)
+    ∙ simp (filter-append, length-append) (elim (test n) as (λ b. length (filter test (range_with_len 0 n)) + length (cond b (n ∷ []) []) ≡ cond b (suc (count test n)) (count test n)) [
+      | true ↦ omega (arith, passing test n)
+      | false ↦ omega (arith, passing test n)
+    ])
 
--- a block is handed out exactly where there is one
-pub handed :
-    (m : Meaning) (s n p : ℕ) (r : Result (Bor (List ℕ)) Refusal) (b : Bool) → b ≡ is_ok r → s < m.shape.slots → n < m.shape.nodes
-    → p < m.shape.places → Hands m s n p r → is_some (cells_of (m.slot s) n p) ≡ b
-handed m s n p (Ok x) b is s< n< p< h = ap is_some h.1 ∙ sym is
-handed m s n p (Err f) b is s< n< p< h =
-    gap (m.slot s) n p f
-    (sym (refuse_later (leb m.shape.nodes n) Node _ (lt-leb m.shape.nodes n n<)
-    ∙ refuse_later (leb m.shape.places p) Place _ (lt-leb m.shape.places p p<)
-    ∙ refuse_later (leb m.shape.slots s) BadSlot (cell_refusal (m.slot s) n p) (lt-leb m.shape.slots s s<)) ∙ h) ∙ sym is
+-- the cells of the first k nodes
+pub all_nodes : (r : ImageReader) (s k : ℕ) → sum (map (of_node r s) (range_with_len 0 k)) ≡ of_nodes r s k
+all_nodes r s zero = refl
+all_nodes r s (suc k) =
+    let each = of_node r s in
+    ap (λ ns. sum (map each ns)) (range_more k) ∙ ap sum (map-append each (range_with_len 0 k) (k ∷ []))
+    ∙ fold-append ◌+◌ 0 (map each (range_with_len 0 k)) (each k ∷ []) ∙ ap (λ x. x + each k) (all_nodes r s k)
 
--- one place more, with a block or without
-pub place_more : (f : ℕ → Bool) (k old new : ℕ) → old ≡ count f k → f k ≡ true → new ≡ old + 1 → new ≡ count f (k + 1)
-place_more f k old new was t is = is ∙ ap (λ x. x + 1) was ∙ sym (count_more f k t)
+-- they are few
+at_most : (r : ImageReader) (s k : ℕ) → of_nodes r s k ≤ k * (shape_of r).places
+at_most r s zero = omega arith
+at_most r s (suc k) = omega (arith, at_most r s k, count_le (has r s k) (shape_of r).places, add-mul k 1 (shape_of r).places, one-mul (shape_of r).places, add-one k)
 
-pub place_skip : (f : ℕ → Bool) (k old new : ℕ) → old ≡ count f k → f k ≡ false → new ≡ old → new ≡ count f (k + 1)
-place_skip f k old new was t is = is ∙ was ∙ sym (count_skip f k t)
-
--- one node more
-pub node_more : (r : ImageReader) (s k old more : ℕ) → old ≡ of_nodes r s k → more ≡ of_node r s k → old + more ≡ of_nodes r s (k + 1)
-node_more r s k old more was is = rw add-one (ap (λ x. x + more) was ∙ ap (λ y. of_nodes r s k + y) is)
+pub fits : (r : ImageReader) (s : ℕ) → Limits (shape_of r) → sum (map (of_node r s) (range_with_len 0 (shape_of r).nodes)) < 2 ^ 64
+fits r s small =
+    let h = shape_of r in
+    omega (arith, all_nodes r s h.nodes, at_most r s h.nodes, mul-le h.nodes h.places 64 64 small.nodes_most small.places_most)

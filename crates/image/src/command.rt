@@ -1,9 +1,13 @@
 // Commands: what the words of a line ask for.
 ghost use Rattle.std.specs.Prelude.{◌≡◌, IfOk, decimal};
 
-use crate::mistake::Mistake;
+use console::mistake;
+use refusal::kind::Refusal;
 use store::kinds::Shape;
-use words::read_number;
+use words::number;
+
+// What can be wrong with a command; the fault of a file is why it is no image of the shape.
+pub type Mistake<'a> = mistake::Mistake<'a, Refusal>;
 
 // The form of a command, for who left out a word.
 const FORM: &str = "N P S FILE";
@@ -15,27 +19,14 @@ pub struct Command<'a> {
     pub path: &'a str,
 }
 
-// The number that a word writes.
-fn number<'a>(word: &'a str) -> Result<usize, Mistake<'a>>
-    ensures { IfOk result (λ n. word.now ≡ decimal n) }
-{
-    match read_number(word) {
-        Some(n) => Ok(n),
-        None => Err(Mistake::BadNumber(word)),
-    }
-}
-
 // The shape that three words write: nodes, places and slots.
 fn shape_of<'a>(nodes: &'a str, places: &'a str, slots: &'a str) -> Result<Shape, Mistake<'a>>
     ensures { IfOk result (λ h. (nodes.now ≡ decimal h.nodes) × (places.now ≡ decimal h.places) × (slots.now ≡ decimal h.slots)) }
 {
-    let nodes = number(nodes)?;
-    let places = number(places)?;
-    let slots = number(slots)?;
     Ok(Shape {
-        nodes,
-        places,
-        slots,
+        nodes: number(nodes)?,
+        places: number(places)?,
+        slots: number(slots)?,
     })
 }
 

@@ -18,20 +18,12 @@ fn shift(rest: u32) -> u32
 fn take(old: u32, byte: u8) -> u32
     ensures { result ≡ taken old byte }
 {
-    let mut rest = old ^ u32::from(byte);
-    for _bit in 0..8u32 {
-        rest = shift(rest);
-    }
-    rest
+    (0..8u32).fold(old ^ u32::from(byte), |rest, _bit| shift(rest))
 }
 
 // The CRC-32 of the bytes.
 pub fn crc32(bytes: &[u8]) -> u32
     ensures { result ≡ crc bytes.now }
 {
-    let mut rest = u32::MAX;
-    for byte in bytes {
-        rest = take(rest, *byte);
-    }
-    rest ^ u32::MAX
+    bytes.iter().fold(u32::MAX, |rest, byte| take(rest, *byte)) ^ u32::MAX
 }

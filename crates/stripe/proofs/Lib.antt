@@ -1,4 +1,3 @@
-mod Cutting
 mod Hexes
 mod Marking
 mod Seen

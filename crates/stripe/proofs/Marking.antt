@@ -1,16 +1,26 @@
--- One more mark.
-use Rattle.std.proofs.Common.{◌≡◌, ℕ, ◌+◌, ◌<◌, List, length, get_or, ◌∙◌, subst, arith, below_more}
-use Rattle.stripe.specs.Lost.{Among, Marks}
+-- The marks of all blocks.
+use Rattle.std.proofs.Common.{◌≡◌, ℕ, Bool, true, false, cond, eqb, List, map, get_or, refl, ap, ◌∙◌, zero-add, arith}
+use Rattle.std.proofs.lemmas.Bool.{eq-eqb}
+use Rattle.std.proofs.lemmas.Grind.{common_steps}
+use Rattle.std.proofs.lemmas.List.FromFn.{length-map-range_with_len, get_or-map-range_with_len}
+use Rattle.std.proofs.lemmas.List.Folds.{list_any_at, Any-from_list_any}
+use Rattle.std.specs.List.{list_any, range_with_len}
+use Rattle.stripe.specs.Lost.{Among, mark, Marks}
 
--- the mark of block i behind those of the blocks below i
-pub marks_more :
-    (lost old new : List ℕ) (i n m : ℕ) → Marks lost old i → n ≡ i → length new ≡ n + 1
-    → ((k : ℕ) → k < n → get_or new k 0 ≡ get_or old k 0) → get_or new n 0 ≡ m
-    → (Among lost i → m ≡ 0) → ((Among lost i → ⊥) → m ≡ 1) → Marks lost new (i + 1)
-marks_more lost old new i n m was at long same last gone kept =
-    let here : get_or new i 0 ≡ m = subst (λ v. get_or new v 0 ≡ m) at last in
+-- a number that is found is among them
+found : (lost : List ℕ) (i : ℕ) → list_any (λ x. eqb x i) lost ≡ true → Among lost i
+found lost i e = let a = Any-from_list_any (λ x. eqb x i) lost e in (a.0, a.2, grind (arith, common_steps))
+
+kept : (lost : List ℕ) (i : ℕ) (b : Bool) → list_any (λ x. eqb x i) lost ≡ b → (Among lost i → ⊥) → cond {A = ℕ} b 0 1 ≡ 1
+kept lost i true e out = absurd (out (found lost i e))
+kept lost i false e out = refl
+
+pub all_marked : (lost : List ℕ) (n : ℕ) → Marks lost (map (mark lost) (range_with_len 0 n)) n
+all_marked lost n =
     record {
-      long = omega (arith, long, at);
-      gone = below_more _ _ (λ k h a. same k (omega (arith, h, at)) ∙ was.gone k h a) (λ a. here ∙ gone a);
-      kept = below_more _ _ (λ k h no. same k (omega (arith, h, at)) ∙ was.kept k h no) (λ no. here ∙ kept no);
+      long = length-map-range_with_len (mark lost) 0 n;
+      gone = λ i h a.
+          get_or-map-range_with_len (mark lost) 0 n i i 0 h (zero-add i)
+          ∙ ap (λ b. cond b 0 1) (list_any_at (λ x. eqb x i) lost a.0 0 a.1 (eq-eqb (get_or lost a.0 0) i a.2));
+      kept = λ i h out. get_or-map-range_with_len (mark lost) 0 n i i 0 h (zero-add i) ∙ kept lost i (list_any (λ x. eqb x i) lost) refl out;
     }

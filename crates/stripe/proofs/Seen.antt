@@ -1,6 +1,8 @@
 -- Nodes that are lost one after the other, a rank that came back, and the fates of its cells.
-use Rattle.std.proofs.Common.{◌≡◌, ℕ, ◌+◌, ◌<◌, Bool, true, List, [], ◌∷◌, ◌++◌, length, get_or, take, None, Ok, fold, sym, refl, ap, ◌∙◌, subst, arith, below_more}
+use Rattle.std.proofs.Common.{◌≡◌, ℕ, ◌+◌, ◌<◌, Bool, true, List, [], ◌∷◌, ◌++◌, length, get_or, take, None, Ok, fold, sym, refl, ap, ◌∙◌, subst, map, zero-add}
 use Rattle.std.proofs.lemmas.List.{take_more}
+use Rattle.std.proofs.lemmas.List.FromFn.{length-map-range_with_len, get_or-map-range_with_len}
+use Rattle.std.specs.List.{range_with_len}
 use Rattle.refusal.proofs.Turning.{outcome_done, turned}
 use Rattle.store.specs.Meaning.{Meaning}
 use Rattle.store.specs.Calls.{get_refusal, lose_refusal, losing, LoseAnswer}
@@ -33,13 +35,13 @@ came_back m n old new written read long same =
       sym (turned (rank_refusal m 0 n (length old)) old _ (Ok tt) new read none) ∙ same,
     )
 
--- the fate at place i behind those of the places below i
-pub fates_more :
-    (m : Meaning) (n : ℕ) (lost : Bool) (old new : List Fate) (i k : ℕ) (f : Fate) → Fates m n lost i old → k ≡ i → length new ≡ k + 1
-    → ((p : ℕ) → p < k → get_or new p Gap ≡ get_or old p Gap) → get_or new k Gap ≡ f → f ≡ fate_of (get_refusal m 0 n i 64) lost
-    → Fates m n lost (i + 1) new
-fates_more m n lost old new i k f was at long same last here =
+-- the fates of all places
+pub all_fates :
+    (m : Meaning) (n : ℕ) (lost : Bool) (k : ℕ)
+    → Fates m n lost k (map (λ p. fate_of (get_refusal m 0 n p 64) lost) (range_with_len 0 k))
+all_fates m n lost k =
+    let fate : ℕ → Fate = λ p. fate_of (get_refusal m 0 n p 64) lost in
     record {
-      long = omega (arith, long, at);
-      each = below_more _ _ (λ p h. same p (omega (arith, h, at)) ∙ was.each p h) (subst (λ v. get_or new v Gap ≡ f) at last ∙ here);
+      long = length-map-range_with_len fate 0 k;
+      each = λ p h. get_or-map-range_with_len fate 0 k p p Gap h (zero-add p);
     }

@@ -1,3 +1,4 @@
+pub mod Asked
 pub mod Hex
 pub mod Lost
 pub mod Seen

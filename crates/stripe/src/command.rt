@@ -1,9 +1,17 @@
 // Commands: what the words of a line ask for.
-ghost use Rattle.std.specs.Prelude.{◌≡◌, IfOk, decimal};
+ghost use Rattle.std.specs.Prelude.{◌≡◌, IfOk};
+ghost use Rattle.codes.specs.Kinds.{any_recipe};
+ghost use Rattle.stripe.specs.Asked.{recipe_of};
 
-use crate::mistake::Mistake;
+use crate::fault::Mistake;
+use codes::any::AnyCode;
+use codes::cauchy::Cauchy;
+use codes::copies::Copies;
+use codes::xor_sum::XorSum;
+use refusal::kind::Refusal;
 use std::alloc::Global;
-use words::read_number;
+use std::fmt;
+use words::{BadNumber, number};
 
 // What may name a code, or stand in its place, where a command begins; and what may name a code of a level.
 const COMMANDS: &str = "copy, sum, rs or vectors";
@@ -30,12 +38,25 @@ pub enum Kind {
 }
 
 impl Kind {
-    // The word that asks for it. No contract: it is only printed.
-    pub fn name(&self) -> &'static str {
+    // The code that it asks for.
+    pub fn code(&self) -> Result<AnyCode, Refusal>
+        ensures { IfOk result (λ c. any_recipe c ≡ recipe_of self.now) }
+    {
+        match *self {
+            Kind::Copy { m } => Ok(Copies::new(m)?.into()),
+            Kind::Sum { k } => Ok(XorSum::new(k)?.into()),
+            Kind::Rs { k, m } => Ok(Cauchy::new(k, m)?.into()),
+        }
+    }
+}
+
+// The word that asks for it.
+impl fmt::Display for Kind {
+    fn fmt<W: fmt::Write>(&self, f: &mut fmt::Formatter<W>) -> fmt::Result {
         match self {
-            Kind::Copy { .. } => "copy",
-            Kind::Sum { .. } => "sum",
-            Kind::Rs { .. } => "rs",
+            Kind::Copy { .. } => write!(f, "copy"),
+            Kind::Sum { .. } => write!(f, "sum"),
+            Kind::Rs { .. } => write!(f, "rs"),
         }
     }
 }
@@ -69,16 +90,6 @@ pub enum Command<'a> {
     Vectors(&'a str),
 }
 
-// The number that a word writes.
-fn number<'a>(word: &'a str) -> Result<usize, Mistake<'a>>
-    ensures { IfOk result (λ n. word.now ≡ decimal n) }
-{
-    match read_number(word) {
-        Some(n) => Ok(n),
-        None => Err(Mistake::BadNumber(word)),
-    }
-}
-
 // A job that loses what the words number.
 fn protection<'a>(
     heap: Global,
@@ -87,10 +98,11 @@ fn protection<'a>(
     path: &'a str,
     words: &[&'a str],
 ) -> Result<Command<'a>, Mistake<'a>> {
-    let mut lost = Vec::new(heap);
-    for word in words {
-        lost.push(number(*word)?)?;
-    }
+    let lost: Result<Vec<usize>, BadNumber<'a>> = words
+        .iter()
+        .map(|word| number(*word))
+        .collect(heap)?;
+    let lost = lost?;
     Ok(Command::Protect(Job {
         kind,
         ground,
@@ -109,29 +121,32 @@ fn parse_code<'a>(
     match words {
         [] => Err(Mistake::MissingWord(known)),
         ["copy", m, path, lost @ ..] => {
-            let m = number(*m)?;
-            protection(heap, ground, Kind::Copy { m }, *path, lost)
+            let kind = Kind::Copy { m: number(*m)? };
+            protection(heap, ground, kind, *path, lost)
         }
         ["copy", ..] => Err(Mistake::MissingWord(COPY)),
         ["sum", k, path, lost @ ..] => {
-            let k = number(*k)?;
-            protection(heap, ground, Kind::Sum { k }, *path, lost)
+            let kind = Kind::Sum { k: number(*k)? };
+            protection(heap, ground, kind, *path, lost)
         }
         ["sum", ..] => Err(Mistake::MissingWord(SUM)),
         ["rs", k, m, path, lost @ ..] => {
-            let k = number(*k)?;
-            let m = number(*m)?;
-            protection(heap, ground, Kind::Rs { k, m }, *path, lost)
+            let kind = Kind::Rs {
+                k: number(*k)?,
+                m: number(*m)?,
+            };
+            protection(heap, ground, kind, *path, lost)
         }
         ["rs", ..] => Err(Mistake::MissingWord(RS)),
-        [other, ..] => Err(Mistake::UnknownCode {
+        [other, ..] => Err(Mistake::Unknown {
+            thing: "code",
             word: *other,
             known,
         }),
     }
 }
 
-// The command that the words make. No contract: that a number is that of its word is `number`'s; which word is which is only
+// The command that the words make. No contract: that a number is that of its word is said by `number`; which word is which is only
 // tested.
 pub fn parse<'a>(heap: Global, words: &[&'a str]) -> Result<Command<'a>, Mistake<'a>> {
     match words {

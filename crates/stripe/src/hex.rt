@@ -24,11 +24,11 @@ pub fn read_block(word: &str) -> Option<[u8; BLOCK]>
     if digits.len() != 2 * BLOCK {
         return None;
     }
+    let (pairs, _) = digits.as_chunks::<2>();
     let mut block = [0; BLOCK];
-    for j in 0..BLOCK {
-        let high = digit(digits[2 * j])?;
-        let low = digit(digits[2 * j + 1])?;
-        block[j] = 16 * high + low;
+    // Each byte is written at its place: of what a zip of `iter_mut` writes nothing could be proved.
+    for (j, [high, low]) in pairs.iter().enumerate() {
+        block[j] = 16 * digit(*high)? + digit(*low)?;
     }
     Some(block)
 }

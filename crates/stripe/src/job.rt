@@ -2,18 +2,16 @@
 ghost use Rattle.std.specs.Prelude.{◌≡◌, ℕ, ◌+◌, ◌-◌, ◌*◌, ◌<◌, ◌≤◌, Bool, true, false, length, IfOk, vec_len, slice_index};
 ghost use Rattle.block.specs.Count.{count};
 ghost use Rattle.code.specs.Calls.{marks_held};
-ghost use Rattle.stripe.specs.Lost.{Among, Marks};
+ghost use Rattle.stripe.specs.Lost.{Among, mark, Marks};
 
 use crate::command::{Job, Kind};
-use crate::mistake::Mistake;
+use crate::fault::{Fault, Mistake};
 use block::BLOCK;
 use code::{Code, Sizes, count_held};
-use codes::cauchy::Cauchy;
-use codes::copies::Copies;
-use codes::xor_sum::XorSum;
 use refusal::kind::Refusal;
 use std::alloc::{AllocError, Global};
 use std::{fmt, fs};
+use striping::failure::Failure;
 use striping::survive;
 use words::counted::Counted;
 
@@ -37,10 +35,13 @@ impl fmt::Display for Unmarked<'_> {
         if !self.marks.contains(&0) {
             return write!(f, " none");
         }
-        for (i, mark) in self.marks.iter().enumerate() {
-            if *mark == 0 {
-                write!(f, " {i}")?;
-            }
+        for (i, _) in self
+            .marks
+            .iter()
+            .enumerate()
+            .filter(|(_, mark)| **mark == 0)
+        {
+            write!(f, " {i}")?;
         }
         Ok(())
     }
@@ -72,10 +73,10 @@ impl Report<'_> {
 // A line for each fact.
 impl fmt::Display for Report<'_> {
     fn fmt<W: fmt::Write>(&self, f: &mut fmt::Formatter<W>) -> fmt::Result {
-        let name = self.kind.name();
+        let kind = self.kind;
         let data = Counted::of(self.sizes.k, "data block");
         let checks = Counted::of(self.sizes.m, "check");
-        writeln!(f, "code {name}: {data} and {checks} of {BLOCK} bytes")?;
+        writeln!(f, "code {kind}: {data} and {checks} of {BLOCK} bytes")?;
         let path = self.path;
         let bytes = Counted::of(self.bytes, "byte");
         let stripes = Counted::of(self.stripes, "stripe");
@@ -89,21 +90,18 @@ impl fmt::Display for Report<'_> {
 
 // The mark of block i: 0 if it is lost, else 1.
 fn mark_of(i: usize, lost: &[usize]) -> u8
+    ensures is { result ≡ mark lost.now i }
     ensures gone { Among lost.now i → result ≡ 0 }
     ensures kept { (Among lost.now i → ⊥) → result ≡ 1 }
 {
-    if lost.contains(&i) { 0 } else { 1 }
+    u8::from(!lost.contains(&i))
 }
 
-// A mark for each of n blocks, or of n nodes.
+// A mark for each of n blocks.
 pub fn marks_of(heap: Global, n: usize, lost: &[usize]) -> Result<Vec<u8>, AllocError>
     ensures { IfOk result (λ v. Marks lost.now v.items n) }
 {
-    let mut marks = Vec::new(heap);
-    for i in 0..n {
-        marks.push(mark_of(i, lost))?;
-    }
-    Ok(marks)
+    (0..n).map(|i| mark_of(i, lost)).collect(heap)
 }
 
 // Whether every number is below n.
@@ -111,12 +109,7 @@ pub fn all_below(numbers: &[usize], n: usize) -> bool
     ensures yes { result ≡ true → (k : ℕ) → k < length numbers.now → slice_index numbers.now k < n }
     ensures none { result ≡ false → ((k : ℕ) × (k < length numbers.now) × (n ≤ slice_index numbers.now k)) }
 {
-    for number in numbers {
-        if *number >= n {
-            return false;
-        }
-    }
-    true
+    numbers.iter().all(|number| *number < n)
 }
 
 // The number of parts of so many bytes each that a file fills, the last one perhaps not to its end.
@@ -130,10 +123,7 @@ pub fn parts_of(bytes: usize, part: usize) -> usize
 
 // The bytes of a file. No contract: what a file holds is said by none.
 pub fn read<'a>(rt: &HostRuntime, path: &'a str) -> Result<Vec<u8>, Mistake<'a>> {
-    match fs::read(rt, path) {
-        Ok(file) => Ok(file),
-        Err(error) => Err(Mistake::CannotRead { path, error }),
-    }
+    fs::read(rt, path).map_err(|error| Mistake::CannotRead { path, error })
 }
 
 // The number of stripes of k data blocks that so many bytes fill, the last one perhaps in part.
@@ -145,43 +135,33 @@ fn stripes_of(bytes: usize, k: usize) -> usize
     parts_of(bytes, k * BLOCK)
 }
 
-// Protects the file by the code, loses what is to be lost, and sees that every byte comes back. No contract: that a file comes
-// back is that of `survive`.
-fn carry<'a, C: Code>(
-    rt: &HostRuntime,
-    code: &C,
-    job: &Job<'a>,
-) -> Result<Report<'a>, Mistake<'a>> {
+// Protects the file by the code that the job asks for, loses what is to be lost, and sees that every byte comes back. No
+// contract: that a file comes back is that of `survive`, and that the code is the one that is asked for that of `Kind::code`.
+pub fn protect<'a>(rt: &HostRuntime, job: &Job<'a>) -> Result<Report<'a>, Mistake<'a>> {
+    let code = job.kind.code()?;
     let sizes = code.sizes();
     let n = sizes.k + sizes.m;
-    if !all_below(job.lost.as_slice(), n) {
-        return Err(Mistake::Refused(Refusal::BlockNumber));
+    let lost = job.lost.as_slice();
+    if !all_below(lost, n) {
+        return Err(Refusal::BlockNumber.into());
     }
-    let marks = marks_of(rt.alloc(), n, job.lost.as_slice())?;
+    let marks = marks_of(rt.alloc(), n, lost)?;
     let path = job.path;
     let file = read(rt, path)?;
-    let back = survive(rt.alloc(), code, file.as_slice(), marks.as_slice())?;
-    if back != file {
-        return Err(Mistake::OtherBytes);
+    match survive(rt.alloc(), &code, file.as_slice(), marks.as_slice()) {
+        Ok(back) if back == file => (),
+        Ok(_) => return Err(Fault::OtherBytes.into()),
+        // Written out: a From may be given for `Fault` alone, and want of memory is no case of it.
+        Err(Failure::Refused(refusal)) => return Err(refusal.into()),
+        Err(Failure::Memory) => return Err(Mistake::Memory),
     }
     let bytes = file.len();
-    let stripes = stripes_of(bytes, sizes.k);
     Ok(Report {
         kind: job.kind,
         sizes,
         path,
         bytes,
-        stripes,
+        stripes: stripes_of(bytes, sizes.k),
         marks,
     })
-}
-
-// Makes the code that the job asks for, and protects the file by it. No contract: that a file comes back is that of `survive`;
-// that the job's code and sizes are the ones used is only tested.
-pub fn protect<'a>(rt: &HostRuntime, job: &Job<'a>) -> Result<Report<'a>, Mistake<'a>> {
-    match job.kind {
-        Kind::Copy { m } => carry(rt, &Copies::new(m)?, job),
-        Kind::Sum { k } => carry(rt, &XorSum::new(k)?, job),
-        Kind::Rs { k, m } => carry(rt, &Cauchy::new(k, m)?, job),
-    }
 }

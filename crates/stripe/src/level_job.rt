@@ -2,22 +2,19 @@
 //
 // The file is cut into pieces that fill a slot of the level, the last one with zeros behind it; an empty file is one piece of
 // zeros.
-ghost use Rattle.std.specs.Prelude.{◌≡◌, ℕ, ◌+◌, ◌*◌, ◌^◌, ◌<◌, ◌≤◌, length, None, slice_index};
+ghost use Rattle.std.specs.Prelude.{◌≡◌, ◌+◌, ◌*◌, ◌^◌, ◌<◌, ◌≤◌, length, None};
 ghost use Rattle.grid.specs.Index.{total, table_refusal};
 ghost use Rattle.stripe.specs.Seen.{piece_size};
 
-use crate::command::{Ground, Job, Kind};
-use crate::job::{all_below, marks_of, parts_of, read};
+use crate::command::{Ground, Job};
+use crate::fault::Mistake;
+use crate::job::{all_below, parts_of, read};
 use crate::level_report::{LevelReport, Rank};
-use crate::level_trial::{carry_piece, rank_bytes};
-use crate::mistake::Mistake;
+use crate::level_trial::{Trial, rank_bytes};
 use bank::Bank;
 use bank::cell::{BLANK, Cell};
-use block::wipe;
+use block::load;
 use code::{Code, Sizes};
-use codes::cauchy::Cauchy;
-use codes::copies::Copies;
-use codes::xor_sum::XorSum;
 use refusal::kind::Refusal;
 use std::alloc::Global;
 use store::kinds::Shape;
@@ -57,56 +54,42 @@ fn pieces_of(layout: &Layout, file: &[u8]) -> usize
     parts_of(file.len(), piece_bytes(layout)).max(1)
 }
 
-// Fills a buffer with a part of the file, and zeros after it.
-fn load(piece: &mut [u8], part: &[u8])
-    requires { length part.now ≤ length piece.old }
-    ensures { (j : ℕ) → j < length piece.new → slice_index piece.new j ≡ slice_index part.now j }
-{
-    wipe(piece);
-    for j in 0..part.len() {
-        piece[j] = part[j];
-    }
-}
-
-// Carries the whole file, piece by piece, each on a bank over the same table. No contract of its answer, as for `carry_piece`.
-fn carry_all<'a, C: Code + Copy>(
+// Carries the whole file, piece by piece, each on a bank over the same table. No contract of its answer, as for `carry`.
+fn carry_all<'a>(
     heap: Global,
-    layout: Layout,
-    code: C,
+    trial: Trial,
     shape: Shape,
     cells: &mut [Cell],
     file: &[u8],
-    lost: &[usize],
 ) -> Result<Vec<Rank>, Mistake<'a>>
     requires { table_refusal shape (total shape) (length cells.old) ≡ None }
 {
-    let mut ranks = Vec::new(heap);
-    for _ in 0..layout.nodes {
-        ranks.push(Rank {
-            cells: Vec::new(heap),
-            back: true,
-        })?;
-    }
-    let mut piece = vec![in heap; 0; piece_bytes(&layout)]?;
-    let mut rest = file;
-    for _ in 0..pieces_of(&layout, file) {
-        let (part, later) = rest.split_at(rest.len().min(piece.len()));
-        rest = later;
+    let unseen = |number| Rank {
+        cells: Vec::new(heap),
+        back: true,
+        lost: trial.lost.contains(&number),
+    };
+    let mut ranks: Vec<Rank> = (0..trial.layout.nodes).map(unseen).collect(heap)?;
+    let mut piece = vec![in heap; 0; piece_bytes(&trial.layout)]?;
+    // An empty file has a piece too: that of a zero.
+    let file = if file.is_empty() { &[0] } else { file };
+    for part in file.chunks(piece_bytes(&trial.layout)) {
         load(piece.as_mut_slice(), part);
         let bank = Bank::new(shape, cells);
-        carry_piece(layout, code, bank, piece.as_slice(), lost, &mut ranks)?;
+        trial.carry(heap, bank, piece.as_slice(), &mut ranks)?;
     }
     Ok(ranks)
 }
 
-// Protects the file on a level, loses the nodes, and sees what comes back. No contract: it speaks of a file.
-fn carry<'a, C: Code + Copy>(
+// Protects the file on a level, by the code that the job asks for, loses the nodes, and sees what comes back. No contract: it
+// speaks of a file.
+pub fn protect<'a>(
     rt: &HostRuntime,
-    code: C,
     ground: Ground,
     job: &Job<'a>,
 ) -> Result<LevelReport<'a>, Mistake<'a>> {
     let heap = rt.alloc();
+    let code = job.kind.code()?;
     let sizes = code.sizes();
     let shape = shape_of(ground, sizes);
     let layout = Layout::new(shape, sizes, ground.group, ground.lanes)?;
@@ -118,12 +101,12 @@ fn carry<'a, C: Code + Copy>(
     Bank::check(shape, cells.as_slice())?;
     let lost = job.lost.as_slice();
     if !all_below(lost, shape.nodes) {
-        return Err(Mistake::Refused(Refusal::Node));
+        return Err(Refusal::Node.into());
     }
-    let marks = marks_of(heap, shape.nodes, lost)?;
     let file = read(rt, job.path)?;
     let bytes = file.as_slice();
-    let ranks = carry_all(heap, layout, code, shape, cells.as_mut_slice(), bytes, lost)?;
+    let trial = Trial { layout, code, lost };
+    let ranks = carry_all(heap, trial, shape, cells.as_mut_slice(), bytes)?;
     Ok(LevelReport {
         kind: job.kind,
         layout,
@@ -131,21 +114,6 @@ fn carry<'a, C: Code + Copy>(
         bytes: file.len(),
         pieces: pieces_of(&layout, bytes),
         piece: piece_bytes(&layout),
-        marks,
         ranks,
     })
-}
-
-// Makes the code that the job asks for, and protects the file by it on a level. No contract: that the job's code and sizes are
-// the ones used is only tested.
-pub fn protect<'a>(
-    rt: &HostRuntime,
-    ground: Ground,
-    job: &Job<'a>,
-) -> Result<LevelReport<'a>, Mistake<'a>> {
-    match job.kind {
-        Kind::Copy { m } => carry(rt, Copies::new(m)?, ground, job),
-        Kind::Sum { k } => carry(rt, XorSum::new(k)?, ground, job),
-        Kind::Rs { k, m } => carry(rt, Cauchy::new(k, m)?, ground, job),
-    }
 }

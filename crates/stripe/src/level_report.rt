@@ -1,6 +1,5 @@
 // What is told of a file on a level.
 use crate::command::Kind;
-use crate::job::Unmarked;
 use std::fmt;
 use stripe_map::layout::Layout;
 use words::counted::Counted;
@@ -16,32 +15,33 @@ pub enum Fate {
     Gap,
 }
 
-impl Fate {
-    // Its letter on the map. No contract: it is only printed.
-    fn letter(&self) -> char {
+// Its letter on the map.
+impl fmt::Display for Fate {
+    fn fmt<W: fmt::Write>(&self, f: &mut fmt::Formatter<W>) -> fmt::Result {
         match self {
-            Fate::Direct => 'd',
-            Fate::Rebuilt => 'r',
-            Fate::Gap => '-',
+            Fate::Direct => write!(f, "d"),
+            Fate::Rebuilt => write!(f, "r"),
+            Fate::Gap => write!(f, "-"),
         }
     }
 }
 
-// What was seen of a rank.
+// What was seen of a rank. The flags are no Option: a rank that did not come back, or whose node is lost, has cells to show too.
 #[derive(Drop)]
 pub struct Rank {
     // what became of each of its cells, by place
     pub cells: Vec<Fate>,
     // whether its bytes came back in every piece
     pub back: bool,
+    // whether its node was lost
+    pub lost: bool,
 }
 
 // The letters of its cells, and whether its bytes came back.
 impl fmt::Display for Rank {
     fn fmt<W: fmt::Write>(&self, f: &mut fmt::Formatter<W>) -> fmt::Result {
         for fate in self.cells.iter() {
-            let letter = fate.letter();
-            write!(f, "{letter}")?;
+            write!(f, "{fate}")?;
         }
         if self.back {
             write!(f, " came back")
@@ -61,15 +61,13 @@ pub struct LevelReport<'a> {
     pub pieces: usize,
     // bytes of a piece
     pub piece: usize,
-    // 0 for each node that was lost
-    pub marks: Vec<u8>,
     pub ranks: Vec<Rank>,
 }
 
 impl LevelReport<'_> {
     // The sizes of the level and the file, and the lost nodes. No contract: they are only printed.
     fn write_head<W: fmt::Write>(&self, f: &mut fmt::Formatter<W>) -> fmt::Result {
-        let name = self.kind.name();
+        let kind = self.kind;
         let nodes = Counted::of(self.layout.nodes, "node");
         let group = self.layout.group;
         let lanes = Counted::of(self.layout.lanes, "lane");
@@ -77,7 +75,7 @@ impl LevelReport<'_> {
         let checks = Counted::of(self.layout.m, "check");
         write!(
             f,
-            "level of {name}: {nodes} in groups of {group}, {lanes}, "
+            "level of {kind}: {nodes} in groups of {group}, {lanes}, "
         )?;
         writeln!(f, "{data} and {checks}")?;
         let path = self.path;
@@ -85,26 +83,37 @@ impl LevelReport<'_> {
         let pieces = Counted::of(self.pieces, "piece");
         let piece = Counted::of(self.piece, "byte");
         writeln!(f, "file {path}: {bytes} in {pieces} of {piece}")?;
-        let gone = Unmarked::of(self.marks.as_slice());
-        writeln!(f, "lost nodes:{gone}")
+        write!(f, "lost nodes:")?;
+        if self.ranks.iter().all(|rank| !rank.lost) {
+            return writeln!(f, " none");
+        }
+        self.write_numbers(f, |rank| rank.lost)?;
+        writeln!(f, "")
+    }
+
+    // The number of each rank that is picked, after a space. No contract: they are only printed.
+    fn write_numbers<W: fmt::Write, F: Fn(&Rank) -> bool>(
+        &self,
+        f: &mut fmt::Formatter<W>,
+        pick: F,
+    ) -> fmt::Result
+        requires { F.IsAlwaysCallable pick }
+    {
+        for (number, rank) in self.ranks.iter().enumerate() {
+            if pick(rank) {
+                write!(f, " {number}")?;
+            }
+        }
+        Ok(())
     }
 
     // The ranks with a gap, if there is one. No contract: they are only printed.
     fn write_end<W: fmt::Write>(&self, f: &mut fmt::Formatter<W>) -> fmt::Result {
-        let mut whole = true;
-        for (number, rank) in self.ranks.iter().enumerate() {
-            if !rank.back {
-                if whole {
-                    write!(f, "ranks with gaps:")?;
-                }
-                write!(f, " {number}")?;
-                whole = false;
-            }
+        if self.ranks.iter().all(|rank| rank.back) {
+            return write!(f, "every byte came back");
         }
-        if whole {
-            write!(f, "every byte came back")?;
-        }
-        Ok(())
+        write!(f, "ranks with gaps:")?;
+        self.write_numbers(f, |rank| !rank.back)
     }
 }
 

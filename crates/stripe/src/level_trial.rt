@@ -5,13 +5,13 @@ ghost use Rattle.std.specs.Prelude.{◌≡◌, ℕ, ◌/◌, ◌≤◌, true, le
 ghost use Rattle.store.specs.Calls.{get_refusal, losing};
 ghost use Rattle.stripe.specs.Seen.{rank_size, fate_of, Fates, CameBack};
 
+use crate::fault::{Fault, Mistake};
 use crate::level_report::{Fate, Rank};
-use crate::mistake::Mistake;
 use block::BLOCK;
-use code::Code;
+use codes::any::AnyCode;
 use refusal::kind::Refusal;
 use spread::lay::lay;
-use std::alloc::AllocError;
+use std::alloc::{AllocError, Global};
 use store::{Reading, Store, read_rank};
 use stripe_map::layout::Layout;
 
@@ -53,87 +53,91 @@ fn lose_all<S: Store>(store: &mut S, nodes: &[usize]) -> Result<(), Refusal>
     Ok(())
 }
 
-// What became of a cell whose node is lost or not.
-fn fate<R: Reading>(level: &R, node: usize, place: usize, lost: bool) -> Fate
-    ensures { R.Reading.sound level.now → result ≡ fate_of (get_refusal (R.Reading.meaning level.now) 0 node place 64) lost }
-{
-    let mut block = [0; 64];
-    match level.get(SLOT, node, place, &mut block) {
-        Ok(()) if lost => Fate::Rebuilt,
-        Ok(()) => Fate::Direct,
-        Err(_) => Fate::Gap,
-    }
-}
-
-// Whether the bytes of a rank came back; other bytes are a mistake.
-fn comes_back<'a, R: Reading>(level: &R, rank: usize, written: &[u8]) -> Result<bool, Mistake<'a>>
-    ensures { R.Reading.sound level.now → IfOk result (CameBack (R.Reading.meaning level.now) rank written.now) }
-{
-    let mut room = [0; 4096];
-    if written.len() > room.len() {
-        return Err(Mistake::Refused(Refusal::Length));
-    }
-    let bytes = &mut room[0..written.len()];
-    match read_rank(level, SLOT, rank, bytes) {
-        Ok(()) if &bytes[..] == written => Ok(true),
-        Ok(()) => Err(Mistake::OtherBytes),
-        Err(Refusal::Missing { .. }) => Ok(false),
-        Err(refusal) => Err(Mistake::Refused(refusal)),
-    }
-}
-
-// What became of each cell of a node, by place.
-fn fates<R: Reading>(
-    level: &R,
-    node: usize,
-    places: usize,
-    lost: bool,
-    cells: &mut Vec<Fate>,
-) -> Result<(), AllocError>
-    ensures { R.Reading.sound level.now → OnOk result (Fates (R.Reading.meaning level.now) node lost places cells.new.items) }
-{
-    cells.clear();
-    for place in 0..places {
-        cells.push(fate(level, node, place, lost))?;
-    }
-    Ok(())
-}
-
-// Looks at the cells of a rank, and whether what was written came back.
-fn look<'a, R: Reading>(
-    level: &R,
+// A node of a level that was written and may then have been lost. That the level is sound is a premise of what is said and no fact
+// of the type, since a piece is carried on a store of any make, of which nothing is asked.
+#[derive(Drop)]
+struct Node<'a, R: Reading> {
+    level: &'a R,
     number: usize,
     lost: bool,
-    written: &[u8],
-    rank: &mut Rank,
-) -> Result<(), Mistake<'a>>
-    ensures cells { R.Reading.sound level.now → OnOk result (Fates (R.Reading.meaning level.now) number lost (length written.now / 64) rank.new.cells.items) }
-    ensures back { R.Reading.sound level.now → OnOk result (rank.new.back ≡ true → (rank.old.back ≡ true) × CameBack (R.Reading.meaning level.now) number written.now true) }
-{
-    let places = written.len() / BLOCK;
-    fates(level, number, places, lost, &mut rank.cells)?;
-    if !comes_back(level, number, written)? {
-        rank.back = false;
-    }
-    Ok(())
 }
 
-// Carries a piece through the losses, on a level over the store, and looks at every rank. No contract: what is seen of
-// a rank is said by `look`; that every rank is looked at is only tested.
-pub fn carry_piece<'a, C: Code + Copy, S: Store + Drop>(
-    layout: Layout,
-    code: C,
-    below: S,
-    piece: &[u8],
-    lost: &[usize],
-    ranks: &mut Vec<Rank>,
-) -> Result<(), Mistake<'a>> {
-    let width = rank_bytes(&layout);
-    let mut level = lay(layout, code, below);
-    fill(&mut level, width, piece)?;
-    lose_all(&mut level, lost)?;
-    for (number, (rank, written)) in ranks.iter_mut().zip(piece.chunks(width)).enumerate() {
-        look(&level, number, lost.contains(&number), written, rank)?;
+impl<R: Reading> Node<'_, R> {
+    // What became of the cell at a place.
+    fn fate(&self, place: usize) -> Fate
+        ensures { R.Reading.sound self.now.level.now → result ≡ fate_of (get_refusal (R.Reading.meaning self.now.level.now) 0 self.now.number place 64) self.now.lost }
+    {
+        let mut block = [0; BLOCK];
+        match self.level.get(SLOT, self.number, place, &mut block) {
+            Ok(()) if self.lost => Fate::Rebuilt,
+            Ok(()) => Fate::Direct,
+            Err(_) => Fate::Gap,
+        }
     }
-    Ok(())
+
+    // What became of each of its cells, by place.
+    fn fates(&self, heap: Global, places: usize) -> Result<Vec<Fate>, AllocError>
+        ensures { R.Reading.sound self.now.level.now → IfOk result (λ v. Fates (R.Reading.meaning self.now.level.now) self.now.number self.now.lost places v.items) }
+    {
+        (0..places).map(|place| self.fate(place)).collect(heap)
+    }
+
+    // Whether the bytes that were written as its rank came back; other bytes are a mistake.
+    fn comes_back<'m>(&self, heap: Global, written: &[u8]) -> Result<bool, Mistake<'m>>
+        ensures { R.Reading.sound self.now.level.now → IfOk result (CameBack (R.Reading.meaning self.now.level.now) self.now.number written.now) }
+    {
+        let mut room = vec![in heap; 0; written.len()]?;
+        let bytes = room.as_mut_slice();
+        match read_rank(self.level, SLOT, self.number, bytes) {
+            Ok(()) if &bytes[..] == written => Ok(true),
+            Ok(()) => Err(Fault::OtherBytes.into()),
+            Err(Refusal::Missing { .. }) => Ok(false),
+            Err(refusal) => Err(refusal.into()),
+        }
+    }
+
+    // Looks at its cells, and whether what was written came back.
+    fn look<'m>(&self, heap: Global, written: &[u8], rank: &mut Rank) -> Result<(), Mistake<'m>>
+        ensures cells { R.Reading.sound self.now.level.now → OnOk result (Fates (R.Reading.meaning self.now.level.now) self.now.number self.now.lost (length written.now / 64) rank.new.cells.items) }
+        ensures back { R.Reading.sound self.now.level.now → OnOk result (rank.new.back ≡ true → (rank.old.back ≡ true) × CameBack (R.Reading.meaning self.now.level.now) self.now.number written.now true) }
+    {
+        rank.cells = self.fates(heap, written.len() / BLOCK)?;
+        rank.back &= self.comes_back(heap, written)?;
+        Ok(())
+    }
+}
+
+// The losses of a level's nodes, and what the level is laid by.
+#[derive(Clone, Copy)]
+pub struct Trial<'a> {
+    pub layout: Layout,
+    pub code: AnyCode,
+    // the numbers of the nodes
+    pub lost: &'a [usize],
+}
+
+impl Trial<'_> {
+    // Carries a piece through the losses, on a level over the store, and looks at every rank. No contract: what is seen of a rank
+    // is said by `look`; that every rank is looked at is only tested.
+    pub fn carry<'m, S: Store + Drop>(
+        &self,
+        heap: Global,
+        below: S,
+        piece: &[u8],
+        ranks: &mut Vec<Rank>,
+    ) -> Result<(), Mistake<'m>> {
+        let width = rank_bytes(&self.layout);
+        let mut level = lay(self.layout, self.code, below);
+        fill(&mut level, width, piece)?;
+        lose_all(&mut level, self.lost)?;
+        for (number, (rank, written)) in ranks.iter_mut().zip(piece.chunks(width)).enumerate() {
+            let node = Node {
+                level: &level,
+                number,
+                lost: rank.lost,
+            };
+            node.look(heap, written, rank)?;
+        }
+        Ok(())
+    }
 }

@@ -9,70 +9,44 @@
 #![tactic(auto)]
 
 mod command;
+mod fault;
 mod hex;
 mod job;
 mod level_job;
 mod level_report;
 mod level_trial;
-mod mistake;
 mod vectors;
 
 use command::Command;
-use mistake::Mistake;
-use std::{env, io};
+use console::Program;
+use fault::{Fault, Mistake};
+use std::io;
 
-// Does what the words ask, and prints what came of it.
-fn obey<'a>(rt: &HostRuntime, words: &[&'a str]) -> Result<(), Mistake<'a>> {
-    match command::parse(rt.alloc(), words)? {
-        Command::Protect(job) => match job.ground {
-            Some(ground) => {
-                let report = level_job::protect(rt, ground, &job)?;
-                println!(rt; "{report}")?;
-            }
-            None => {
-                let report = job::protect(rt, &job)?;
-                println!(rt; "{report}")?;
-            }
-        },
-        Command::Vectors(path) => vectors::compare(rt, path)?,
+// The program.
+struct Stripe;
+
+impl Program for Stripe {
+    type Fault = Fault;
+
+    fn obey<'a>(&self, rt: &HostRuntime, words: &[&'a str]) -> Result<(), Mistake<'a>> {
+        // A match and no closures: which of the two is to be done comes as text.
+        match command::parse(rt.alloc(), words)? {
+            Command::Protect(job) => match job.ground {
+                Some(ground) => {
+                    let report = level_job::protect(rt, ground, &job)?;
+                    println!(rt; "{report}")?;
+                }
+                None => {
+                    let report = job::protect(rt, &job)?;
+                    println!(rt; "{report}")?;
+                }
+            },
+            Command::Vectors(path) => vectors::compare(rt, path)?,
+        }
+        Ok(())
     }
-    Ok(())
 }
 
-// Runs a line of standard input; a mistake in it is said, and is no failure of the program.
-fn obey_line(rt: &HostRuntime, line: &str) -> io::Result<()> {
-    println!(rt; "> {line}")?;
-    let words: Vec<&str> = line.split(' ').collect(rt.alloc())?;
-    if let Err(mistake) = obey(rt, words.as_slice()) {
-        println!(rt; "{mistake}")?;
-    }
-    Ok(())
-}
-
-// Runs every line of standard input.
-fn serve(rt: &HostRuntime) -> io::Result<()> {
-    for line in rt.lines(rt.alloc()) {
-        obey_line(rt, line?.as_str())?;
-    }
-    Ok(())
-}
-
-// Runs the command of the arguments, or those of standard input; a mistake in the arguments is a failure.
 fn main(rt: HostRuntime) -> io::Result<()> {
-    let mut args = Vec::new(rt.alloc());
-    for arg in env::args(&rt)?.skip(1) {
-        args.push(arg)?;
-    }
-    let mut words = Vec::new(rt.alloc());
-    for arg in args.iter() {
-        words.push(arg.as_str())?;
-    }
-    if let ["-"] = words.as_slice() {
-        return serve(&rt);
-    }
-    if let Err(mistake) = obey(&rt, words.as_slice()) {
-        eprintln!(rt; "{mistake}")?;
-        return Err(io::Error::from(io::ErrorKind::InvalidInput));
-    }
-    Ok(())
+    console::run(&rt, &Stripe)
 }

@@ -6,18 +6,21 @@
 ghost use Rattle.std.specs.Prelude.{◌≡◌, ◌*◌, length, IfOk, vec_len, decimal};
 ghost use Rattle.stripe.specs.Hex.{Writes};
 
+use crate::fault::{Fault, Mistake};
 use crate::hex::read_block;
-use crate::mistake::Mistake;
 use block::BLOCK;
 use code::Code;
 use codes::cauchy::Cauchy;
 use refusal::kind::Refusal;
-use std::alloc::{AllocError, AllocFailed, Global};
+use std::alloc::{AllocError, Global};
 use std::fs;
-use words::read_number;
+use std::num::TryFromIntError;
+use striping::forget;
+use words::{BadNumber, number, words_of};
 
 // Why a line is not compared.
-enum Fault {
+#[derive(Clone, Copy)]
+enum LineFault {
     // it has not the form of a line
     Malformed,
     // no memory was left
@@ -25,23 +28,30 @@ enum Fault {
 }
 
 // So that `?` takes a want of memory.
-impl From<AllocError> for Fault {
-    fn from(_e: AllocError) -> Fault {
-        Fault::Memory
+impl From<AllocError> for LineFault {
+    fn from(_e: AllocError) -> LineFault {
+        LineFault::Memory
     }
 }
 
-// The same from a push.
-impl<T: Drop> From<AllocFailed<T>> for Fault {
-    fn from(_e: AllocFailed<T>) -> Fault {
-        Fault::Memory
+// A word that is no number is a fault of the line.
+impl From<BadNumber<'_>> for LineFault {
+    fn from(_e: BadNumber<'_>) -> LineFault {
+        LineFault::Malformed
     }
 }
 
-// Sizes that are refused are a fault of the line.
-impl From<Refusal> for Fault {
-    fn from(_e: Refusal) -> Fault {
-        Fault::Malformed
+// So is a number that is too large.
+impl From<TryFromIntError> for LineFault {
+    fn from(_e: TryFromIntError) -> LineFault {
+        LineFault::Malformed
+    }
+}
+
+// So are sizes that are refused.
+impl From<Refusal> for LineFault {
+    fn from(_e: Refusal) -> LineFault {
+        LineFault::Malformed
     }
 }
 
@@ -54,12 +64,12 @@ struct Word {
 
 impl Word {
     // The blocks that the words write, which have to be as many as the code has.
-    fn read(heap: Global, code: Cauchy, words: &[&str]) -> Result<Word, Fault>
+    fn read(heap: Global, code: Cauchy, words: &[&str]) -> Result<Word, LineFault>
         ensures { IfOk result (λ w. vec_len w.blocks ≡ length words.now * 64) }
     {
         let sizes = code.sizes();
         if words.len() != sizes.k + sizes.m {
-            return Err(Fault::Malformed);
+            return Err(LineFault::Malformed);
         }
         let mut blocks = Vec::new(heap);
         for word in words {
@@ -76,13 +86,10 @@ impl Word {
         let Some((given, checks)) = blocks.split_at_checked(k * BLOCK) else {
             return false;
         };
-        for (e, check) in checks.chunks_exact(BLOCK).enumerate() {
+        checks.chunks_exact(BLOCK).enumerate().all(|(e, check)| {
             let mut out = [0; BLOCK];
-            if self.code.check(e, given, &mut out).is_err() || &out[..] != check {
-                return false;
-            }
-        }
-        true
+            self.code.check(e, given, &mut out).is_ok() && &out[..] == check
+        })
     }
 
     // Whether the block of that number, rebuilt from the blocks whose marks are not 0, is the result.
@@ -94,77 +101,54 @@ impl Word {
         res: &[u8],
     ) -> Result<bool, AllocError> {
         let mut held = self.blocks.as_slice().to_vec(heap)?;
-        forget(held.as_mut_slice(), marks);
+        forget(marks, held.as_mut_slice());
         let mut out = [0; BLOCK];
-        match self.code.rebuild(number, marks, held.as_slice(), &mut out) {
-            Ok(()) => Ok(&out[..] == res),
-            Err(_) => Ok(false),
-        }
+        let rebuilt = self.code.rebuild(number, marks, held.as_slice(), &mut out);
+        Ok(rebuilt.is_ok() && &out[..] == res)
     }
 
     // Whether a rebuild gives what is said: the words are a block number, marks and the result.
-    fn agrees_with(&self, heap: Global, words: &[&str]) -> Result<bool, Fault> {
-        let [number, marks, result] = words else {
-            return Err(Fault::Malformed);
+    fn agrees_with(&self, heap: Global, words: &[&str]) -> Result<bool, LineFault> {
+        let [wanted, marks, result] = words else {
+            return Err(LineFault::Malformed);
         };
-        let number = number_of(*number)?;
+        let wanted = number(*wanted)?;
         let marks = marks_of(heap, *marks)?;
         let result = block_of(*result)?;
-        Ok(self.rebuilds(heap, number, marks.as_slice(), &result)?)
-    }
-}
-
-// Zeros in the blocks whose marks are 0.
-fn forget(blocks: &mut [u8], marks: &[u8]) {
-    for (block, mark) in blocks.chunks_exact_mut(BLOCK).zip(marks.iter()) {
-        if *mark == 0 {
-            block.fill(0);
-        }
+        Ok(self.rebuilds(heap, wanted, marks.as_slice(), &result)?)
     }
 }
 
 // The block that a word writes.
-fn block_of(word: &str) -> Result<[u8; BLOCK], Fault>
+fn block_of(word: &str) -> Result<[u8; BLOCK], LineFault>
     ensures { IfOk result (λ b. (length b ≡ 64) × Writes word.now b) }
 {
-    match read_block(word) {
-        Some(block) => Ok(block),
-        None => Err(Fault::Malformed),
-    }
+    read_block(word).ok_or(LineFault::Malformed)
 }
 
-// The number that a word writes.
-fn number_of(word: &str) -> Result<usize, Fault>
-    ensures { IfOk result (λ n. word.now ≡ decimal n) }
+// The mark that a word writes, a number below 256.
+fn mark_of(word: &str) -> Result<u8, LineFault>
+    ensures { IfOk result (λ m. word.now ≡ decimal m) }
 {
-    match read_number(word) {
-        Some(n) => Ok(n),
-        None => Err(Fault::Malformed),
-    }
+    Ok(u8::try_from(number(word)?)?)
 }
 
-// The marks that a word writes, numbers below 256 with commas between.
-fn marks_of(heap: Global, word: &str) -> Result<Vec<u8>, Fault> {
-    let mut marks = Vec::new(heap);
-    for part in word.split(',') {
-        match u8::try_from(number_of(part)?) {
-            Ok(mark) => marks.push(mark)?,
-            Err(_) => return Err(Fault::Malformed),
-        }
-    }
-    Ok(marks)
+// The marks that a word writes, with commas between.
+fn marks_of(heap: Global, word: &str) -> Result<Vec<u8>, LineFault> {
+    word.split(',').map(|part| mark_of(part)).try_collect(heap)
 }
 
 // Whether what a line says of the code is so; `last` is the last word above it.
-fn agrees(heap: Global, last: &mut Option<Word>, line: &str) -> Result<bool, Fault> {
+fn agrees(heap: Global, last: &mut Option<Word>, line: &str) -> Result<bool, LineFault> {
     if line.starts_with('W') {
         *last = None;
     }
-    let words: Vec<&str> = line.split(' ').collect(heap)?;
+    let words = words_of(heap, line)?;
     let [kind, k, m, rest @ ..] = words.as_slice() else {
-        return Err(Fault::Malformed);
+        return Err(LineFault::Malformed);
     };
-    let code = Cauchy::new(number_of(*k)?, number_of(*m)?)?;
+    let code = Cauchy::new(number(*k)?, number(*m)?)?;
+    // A match and no closures: what is said of the code comes as text.
     match *kind {
         "W" => {
             let word = Word::read(heap, code, rest)?;
@@ -174,20 +158,20 @@ fn agrees(heap: Global, last: &mut Option<Word>, line: &str) -> Result<bool, Fau
         }
         "R" => match last {
             Some(word) if word.code.sizes() == code.sizes() => word.agrees_with(heap, rest),
-            _ => Err(Fault::Malformed),
+            _ => Err(LineFault::Malformed),
         },
         "A" => any_agrees(heap, code, rest),
-        _ => Err(Fault::Malformed),
+        _ => Err(LineFault::Malformed),
     }
 }
 
 // Whether a rebuild of any blocks gives what is said, where the words are those of a line after its sizes.
-fn any_agrees(heap: Global, code: Cauchy, words: &[&str]) -> Result<bool, Fault> {
+fn any_agrees(heap: Global, code: Cauchy, words: &[&str]) -> Result<bool, LineFault> {
     let [number, marks, rest @ ..] = words else {
-        return Err(Fault::Malformed);
+        return Err(LineFault::Malformed);
     };
     let Some((result, blocks)) = rest.split_last() else {
-        return Err(Fault::Malformed);
+        return Err(LineFault::Malformed);
     };
     let word = Word::read(heap, code, blocks)?;
     word.agrees_with(heap, &[*number, *marks, *result])
@@ -195,24 +179,22 @@ fn any_agrees(heap: Global, code: Cauchy, words: &[&str]) -> Result<bool, Fault>
 
 // Compares every line of the file, and says which do not agree. No contract: it speaks of a file and of what is printed.
 pub fn compare<'a>(rt: &HostRuntime, path: &'a str) -> Result<(), Mistake<'a>> {
-    let text = match fs::read_to_string(rt, path) {
-        Ok(text) => text,
-        Err(error) => return Err(Mistake::CannotRead { path, error }),
-    };
+    let text = fs::read_to_string(rt, path).map_err(|error| Mistake::CannotRead { path, error })?;
+    let lines = text.as_str().lines().count();
     let mut last = None;
-    let mut lines: usize = 0;
+    // Counted in the loop, which says of each other line what is wrong with it.
     let mut agree: usize = 0;
-    for line in text.as_str().lines() {
-        lines = lines.saturating_add(1);
+    for (above, line) in text.as_str().lines().enumerate() {
+        let number = above.saturating_add(1);
         match agrees(rt.alloc(), &mut last, line) {
             Ok(true) => agree = agree.saturating_add(1),
-            Ok(false) => println!(rt; "line {lines} does not agree")?,
-            Err(Fault::Malformed) => println!(rt; "line {lines} is malformed")?,
-            Err(Fault::Memory) => return Err(Mistake::Memory),
+            Ok(false) => println!(rt; "line {number} does not agree")?,
+            Err(LineFault::Malformed) => println!(rt; "line {number} is malformed")?,
+            Err(LineFault::Memory) => return Err(Mistake::Memory),
         }
     }
     if agree != lines {
-        return Err(Mistake::Vectors { lines, agree });
+        return Err(Fault::Vectors { lines, agree }.into());
     }
     println!(rt; "vectors: {lines} lines, {agree} agree")?;
     Ok(())

@@ -1,13 +1,11 @@
-use Rattle.std.proofs.Common.{◌≡◌, ap, ◌∙◌, ap₂, rules}
+use Rattle.std.proofs.Common.{ap, ◌∙◌, refl, rules}
+use Rattle.std.proofs.lemmas.Iterator.{YieldsList-from_range}
+use Rattle.std.proofs.lemmas.Iterator.Consumers.{fold_from_yields_List}
 use lib.Bits.{bit_xor}
-use Rattle.image.specs.Crc.{shifts}
-use Rattle.image.proofs.Rests.{bit_more}
+use Rattle.image.specs.Crc.{shifted, shifts}
 use Rattle.image.proofs.crc.take.Goals as goal
-
-pub loop-bit-preserved : goal.loop-bit-preserved
-loop-bit-preserved c = bit_more _ c.loop-bit._bit _ _ c.loop-bit.invariant c.shift-rest.ensures
 
 pub returns : goal.returns
 returns c =
-    let all : c.loop-bit._bit ≡ 8 = search rules in
-    c.loop-bit.invariant ∙ ap₂ shifts (ap (bit_xor c.args.old) c.from.ensures) all
+    fold_from_yields_List _ (λ rest bit. shifted rest) _ _ c.fold.ensures.ran (YieldsList-from_range 0 8 8 refl refl) (λ a x b q k. search rules)
+    ∙ ap (λ b. shifts (bit_xor c.args.old b) 8) c.from.ensures
