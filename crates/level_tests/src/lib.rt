@@ -55,6 +55,13 @@ mod tests {
         ghost some: { (1 ≤ group) × (1 ≤ lanes) },
     }
 
+    // A level of that code, in groups of so many nodes, with so many lanes.
+    fn level_of(code: AnyCode, group: usize, lanes: usize) -> Layer
+        requires { (1 ≤ group) × (1 ≤ lanes) }
+    {
+        Layer { code, group, lanes }
+    }
+
     // Whether levels of these sizes, the lowest first, cover a cell against the lost nodes.
     fn covered(layers: &[Layer], node: usize, place: usize, lost: &[usize]) -> bool {
         let Some((top, below)) = layers.split_last() else {
@@ -172,21 +179,9 @@ mod tests {
     #[test]
     fn three_levels(rt: HostRuntime) -> Result<(), Fail> {
         let layers = [
-            Layer {
-                code: cauchy(&rt, 3, 1),
-                group: 4,
-                lanes: 1,
-            },
-            Layer {
-                code: sum(&rt),
-                group: 4,
-                lanes: 1,
-            },
-            Layer {
-                code: copies(&rt),
-                group: 2,
-                lanes: 1,
-            },
+            level_of(cauchy(&rt, 3, 1), 4, 1),
+            level_of(sum(&rt), 4, 1),
+            level_of(copies(&rt), 2, 1),
         ];
         for set in 0..16 {
             let lost = nodes_of(rt.alloc(), 4, set)?;
@@ -206,18 +201,7 @@ mod tests {
     // The sum over the sum, on a block file of three nodes; copies over copies, on a bank of four.
     #[test]
     fn two_levels_of_a_kind(rt: HostRuntime) -> Result<(), Fail> {
-        let sums = [
-            Layer {
-                code: sum(&rt),
-                group: 3,
-                lanes: 3,
-            },
-            Layer {
-                code: sum(&rt),
-                group: 3,
-                lanes: 2,
-            },
-        ];
+        let sums = [level_of(sum(&rt), 3, 3), level_of(sum(&rt), 3, 2)];
         for set in 0..8 {
             let lost = nodes_of(rt.alloc(), 3, set)?;
             let mut image = [255; 3904];
@@ -228,18 +212,7 @@ mod tests {
                 lost.as_slice(),
             );
         }
-        let twice = [
-            Layer {
-                code: copies(&rt),
-                group: 4,
-                lanes: 2,
-            },
-            Layer {
-                code: copies(&rt),
-                group: 4,
-                lanes: 1,
-            },
-        ];
+        let twice = [level_of(copies(&rt), 4, 2), level_of(copies(&rt), 4, 1)];
         for set in 0..16 {
             let lost = nodes_of(rt.alloc(), 4, set)?;
             let mut cells = [BLANK; 32];
@@ -252,16 +225,8 @@ mod tests {
     #[test]
     fn copies_over_two_checks(rt: HostRuntime) -> Result<(), Fail> {
         let layers = [
-            Layer {
-                code: cauchy(&rt, 2, 2),
-                group: 6,
-                lanes: 1,
-            },
-            Layer {
-                code: copies(&rt),
-                group: 3,
-                lanes: 1,
-            },
+            level_of(cauchy(&rt, 2, 2), 6, 1),
+            level_of(copies(&rt), 3, 1),
         ];
         for set in 0..64 {
             let lost = nodes_of(rt.alloc(), 6, set)?;
