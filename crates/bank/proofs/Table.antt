@@ -1,5 +1,5 @@
 -- What a write makes of a table, and of the grid that it shows.
-use Rattle.std.proofs.Common.{◌≡◌, ℕ, ◌+◌, ◌*◌, ◌<◌, true, cond, ◌&&◌, eqb, ltb, leb, List, length, length-set, set, replicate, Some, None, sym, refl, ap, ◌∙◌, subst, add-zero, arith, rules}
+use Rattle.std.proofs.Common.{◌≡◌, ℕ, ◌+◌, ◌*◌, ◌<◌, true, cond, ◌&&◌, eqb, ltb, leb, List, length, length-set, set, replicate, Some, None, sym, refl, ap, ◌∙◌, subst, mul_assoc, add-zero, arith, rules}
 use Rattle.std.proofs.lemmas.Grind.{common_steps}
 use Rattle.std.proofs.lemmas.List.{length-replicate}
 use Rattle.store.specs.declared.kinds.Shape.{Shape}
@@ -8,11 +8,11 @@ use Rattle.store.specs.declared.kinds.State.TheVariants.{Empty, Open, Sealed}
 use Rattle.block.specs.Block.{Block, IsBlock}
 use Rattle.store.specs.Meaning.{Within}
 use Rattle.store.specs.Calls.{incomplete}
-use Rattle.grid.specs.Grid.{Grid, Sound, marked, written, dropped_in}
+use Rattle.grid.specs.Grid.{Grid, Sound, marked, written, dropped_in, cleared}
 use Rattle.grid.specs.Index.{index, total, table_refusal}
-use Rattle.grid.proofs.Grid.{put_sound, seal_sound, wipe_sound, vacate_sound, fresh_sound}
-use Rattle.grid.proofs.Index.{index_below, in_node}
-use Rattle.grid.proofs.Row.{marked_row, written_row, dropped_in_row, fresh_row}
+use Rattle.grid.proofs.Grid.{put_sound, seal_sound, clear_sound, wipe_sound, fresh_sound}
+use Rattle.grid.proofs.Index.{index_below, in_slot, in_node}
+use Rattle.grid.proofs.Row.{marked_row, written_row, dropped_in_row, cleared_row, fresh_row}
 use Rattle.grid.proofs.Sizes.{sizes_limits, sizes_length}
 use Rattle.grid.proofs.Calls.{all_there}
 use Rattle.bank.specs.Table.{blank, at, content, row_of, marks_of, grid_at, SoundTable}
@@ -29,6 +29,14 @@ pub wiped_cell : (h : Shape) (xs ys : List Cell) (s n a : ℕ) → n < h.nodes �
 wiped_cell h xs ys s n a n< e w t x y x< y< =
     let from : a ≡ (s * h.nodes + n) * h.places = e ∙ add-zero _ in
     let here = in_node h t x y x< y< s n n< in
+    let now = w (index h t x y) in
+    search rules
+
+-- and after those of a whole slot are
+emptied_cell : (h : Shape) (xs ys : List Cell) (s a : ℕ) → a ≡ index h s 0 0 → ((i : ℕ) → at ys i ≡ cond (leb a i && ltb i (a + h.nodes * h.places)) blank (at xs i)) → (t x y : ℕ) → x < h.nodes → y < h.places → at ys (index h t x y) ≡ cond (eqb t s) blank (at xs (index h t x y))
+emptied_cell h xs ys s a e w t x y x< y< =
+    let from : a ≡ s * (h.nodes * h.places) = omega (arith, e, mul_assoc s h.nodes h.places, add-zero (s * h.nodes)) in
+    let here = in_slot h t x y x< y< s in
     let now = w (index h t x y) in
     search rules
 
@@ -71,13 +79,13 @@ module _ (h : Shape) (zs : List State) (xs : List Cell) (k : SoundTable h zs xs)
       refl
       l
 
-  pub vacate_table : (s : ℕ) → s < h.slots → ((n p : ℕ) → g.cell s n p ≡ None) → Shows h (set zs s Empty) xs (marked g s Empty)
-  vacate_table s s< bare =
-      shows (set zs s Empty) xs (marked g s Empty)
-      (marked_row h (marks_of zs) (marks_of (set zs s Empty)) (row_of xs) (row_of xs) s Empty (mark s Empty s<) (λ _ _. refl))
-      (vacate_sound g k.grid s bare)
+  pub clear_table : (s a : ℕ) (ys : List Cell) → s < h.slots → a ≡ index h s 0 0 → length ys ≡ length xs → ((i : ℕ) → at ys i ≡ cond (leb a i && ltb i (a + h.nodes * h.places)) blank (at xs i)) → Shows h (set zs s Empty) ys (cleared g s)
+  clear_table s a ys s< e l w =
+      shows (set zs s Empty) ys (cleared g s)
+      (cleared_row h (marks_of zs) (marks_of (set zs s Empty)) (row_of xs) (row_of ys) s (mark s Empty s<) (λ t x y t< x< y<. let one = emptied_cell h xs ys s a e w t x y x< y< in search rules))
+      (clear_sound g k.grid s)
       (length-set zs s Empty)
-      refl
+      l
 
 -- eight empty marks, and a table of blank cells
 empty_marks : (n t : ℕ) → marks_of (replicate n Empty) t ≡ Empty

@@ -118,6 +118,9 @@ impl<'a> BareStore for Bank<'a> {
     }
 
     fn vacate(&mut self, slot: usize) {
+        let from = index_of(self.shape, slot, 0, 0);
+        let cells = self.shape.nodes * self.shape.places;
+        wipe_cells(self.cells, from, from + cells);
         self.states[slot] = State::Empty;
     }
 }

@@ -1,14 +1,15 @@
 // A bare store in one byte image lent by its maker.
 #![tactic(auto)]
 
-ghost use Rattle.std.specs.Prelude.{◌≡◌, length, None, OnErr, OnOk};
+ghost use Rattle.std.specs.Prelude.{◌≡◌, ℕ, ◌*◌, ◌<◌, List, length, None, OnErr, OnOk};
 ghost use Rattle.refusal.specs.Answer.{outcome};
 ghost use Rattle.store.specs.Meaning.{vacant, bare};
 ghost use Rattle.store.specs.Calls.{OpenAnswer, PutAnswer, SealAnswer, LoseAnswer, ClearAnswer};
 ghost use Rattle.grid.specs.Grid.{means};
 ghost use Rattle.grid.specs.Index.{table_refusal};
 ghost use Rattle.grid.proofs.Grid.{lawful};
-ghost use Rattle.image_format.specs.Image.{size, SoundImage};
+ghost use Rattle.image_format.specs.Image.{Over, Wiped, size, head_of, SoundImage};
+ghost use Rattle.store.specs.declared.kinds.State.TheVariants.{Empty};
 ghost use Rattle.image_format.proofs.Prop.{sound_prop};
 
 use grid::{BareReading, BareStore};
@@ -25,6 +26,16 @@ pub struct BlockFile<'a> {
     shape: Shape,
     image: &'a mut [u8],
     pub ghost laid: { SoundImage shape image.now } by { sound_prop shape image.now },
+}
+
+// Writes the head of an empty slot, then wipes its records, which lie from one byte to before another. Apart from the methods, since
+// between the two the image is not sound.
+fn empty_bytes(image: &mut [u8], slot: usize, from: usize, to: usize)
+    requires { slot < 8 }
+    ensures { (zs : List ℕ) × (length zs ≡ length image.old) × Over image.old zs (8 * slot) (head_of Empty) × Wiped zs image.new from to }
+{
+    write_bytes(image, 8 * slot, &head_bytes(State::Empty));
+    wipe_bytes(image, from, to);
 }
 
 impl<'a> BlockFile<'a> {
@@ -101,7 +112,9 @@ impl<'a> BareStore for BlockFile<'a> {
     }
 
     fn vacate(&mut self, slot: usize) {
-        write_bytes(self.image, 8 * slot, &head_bytes(State::Empty));
+        let from = start_of(self.shape, slot, 0, 0);
+        let bytes = 72 * (self.shape.nodes * self.shape.places);
+        empty_bytes(self.image, slot, from, from + bytes);
     }
 }
 

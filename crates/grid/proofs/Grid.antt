@@ -69,15 +69,13 @@ module _ (g : Grid) (h : Sound g) where
     pub clear_means : means (cleared g s) ≡ clearing (means g) s
     clear_means = search rules
 
+    pub clear_sound : Sound (cleared g s)
+    clear_sound = record { limits = h.limits; tidy = λ t. tidy_set g.shape (g.cell t) (λ x y. eqb t s) None (search rules) (search rules) (h.tidy t); past = search rules; vacant = search rules; whole = search rules }
+
   -- the cells of a node gone in one slot
   module _ (s n : ℕ) where
     pub wipe_sound : Sound (dropped_in g s n)
     wipe_sound = record { limits = h.limits; tidy = λ t. tidy_set g.shape (g.cell t) (λ x y. eqb t s && eqb x n) None (search rules) (search rules) (h.tidy t); past = h.past; vacant = search rules; whole = search rules }
-
-  -- a slot without any cell emptied
-  module _ (s : ℕ) (bare : (n p : ℕ) → g.cell s n p ≡ None) where
-    pub vacate_sound : Sound (marked g s Empty)
-    vacate_sound = search rules
 
 -- new
 pub fresh_sound : (k : Shape) → Limits k → Sound (fresh k)

@@ -6,7 +6,7 @@ use Rattle.store.specs.declared.kinds.State.TheVariants.{Empty}
 use Rattle.block.specs.Block.{Block}
 use Rattle.grid.specs.Index.{index, total}
 use Rattle.grid.specs.Row.{Row, inside, rowed}
-use Rattle.grid.specs.Grid.{Grid, marked, written, dropped_in, fresh}
+use Rattle.grid.specs.Grid.{Grid, marked, written, dropped_in, cleared, fresh}
 use Rattle.grid.proofs.Index.{index_eqb, index_below}
 use Rattle.grid.proofs.Grid.{grid_same}
 
@@ -47,6 +47,9 @@ module _ (h : Shape) (marks marks' : ℕ → State) (row row' : Row) where
 
   pub dropped_in_row : (s n : ℕ) → ((t : ℕ) → marks' t ≡ marks t) → ((t x y : ℕ) → t < h.slots → x < h.nodes → y < h.places → row' (index h t x y) ≡ cond (eqb t s && eqb x n) None (row (index h t x y))) → g' ≡ dropped_in g s n
   dropped_in_row s n m r = grid_same g' (dropped_in g s n) refl m (row_wiped h marks marks' row row' (λ t x y. eqb t s && eqb x n) r)
+
+  pub cleared_row : (s : ℕ) → ((t : ℕ) → marks' t ≡ cond (eqb t s) Empty (marks t)) → ((t x y : ℕ) → t < h.slots → x < h.nodes → y < h.places → row' (index h t x y) ≡ cond (eqb t s) None (row (index h t x y))) → g' ≡ cleared g s
+  cleared_row s m r = grid_same g' (cleared g s) refl m (row_wiped h marks marks' row row' (λ t x y. eqb t s) r)
 
 -- every slot empty
 pub fresh_row : (h : Shape) (marks : ℕ → State) (row : Row) → ((t : ℕ) → marks t ≡ Empty) → ((i : ℕ) → i < total h → row i ≡ None) → rowed h marks row ≡ fresh h

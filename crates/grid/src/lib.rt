@@ -67,11 +67,10 @@ pub trait BareStore: BareReading {
         ensures wiped { wiped self.new slot node }
         ensures kept { (s n : ℕ) → s < (Self.BareReading.grid self.old).shape.slots → n < (Self.BareReading.grid self.old).shape.nodes → wiped self.old s n → wiped self.new s n };
 
-    // Marks a slot that has no cell as empty.
+    // Marks a slot as empty, then drops its cells and wipes them.
     fn vacate(&mut self, slot: usize)
-        requires inside { slot < (Self.BareReading.grid self.old).shape.slots }
-        requires bare { (n p : ℕ) → (Self.BareReading.grid self.old).cell slot n p ≡ None }
-        ensures { Self.BareReading.grid self.new ≡ marked (Self.BareReading.grid self.old) slot Empty };
+        requires { slot < (Self.BareReading.grid self.old).shape.slots }
+        ensures { Self.BareReading.grid self.new ≡ cleared (Self.BareReading.grid self.old) slot };
 }
 
 // Where a cell lies in a row of all cells: by slot, then node, then place.
@@ -164,7 +163,10 @@ pub fn get<B: BareReading>(
     }
     let state = store.state_of(slot);
     let block = store.block_at(slot, node, place);
-    out.copy_from_slice(present(state, block, node, place)?);
+    // By way of a block of its own, which overlaps neither: so the copy is not made byte by byte.
+    let mut copy = [0; BLOCK];
+    copy.copy_from_slice(present(state, block, node, place)?);
+    out.copy_from_slice(&copy);
     Ok(())
 }
 
@@ -250,18 +252,6 @@ fn forget<B: BareStore>(store: &mut B, node: usize)
     }
 }
 
-// Drops and wipes the cells of a slot and marks it as empty. The cells go before the mark, so that an empty slot has none at any
-// time.
-fn empty<B: BareStore>(store: &mut B, slot: usize)
-    requires { slot < (B.grid store.old).shape.slots }
-    ensures { B.grid store.new ≡ cleared (B.grid store.old) slot }
-{
-    for node in 0..store.sizes().nodes {
-        store.wipe(slot, node);
-    }
-    store.vacate(slot);
-}
-
 // Loses a node in every slot.
 pub fn lose<B: BareStore>(store: &mut B, node: usize) -> Result<(), Refusal>
     ensures means { LoseAnswer (means (B.grid store.old)) node result (means (B.grid store.new)) }
@@ -281,6 +271,6 @@ pub fn clear<B: BareStore>(store: &mut B, slot: usize) -> Result<(), Refusal>
     ensures untouched { OnErr result (store.new ≡ store.old) }
 {
     state(store, slot)?;
-    empty(store, slot);
+    store.vacate(slot);
     Ok(())
 }

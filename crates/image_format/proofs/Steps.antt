@@ -1,5 +1,5 @@
 -- What each change of a bare store makes of a sound image: one that is sound and shows the changed grid. Assumes nothing.
-use Rattle.std.proofs.Common.{◌≡◌, ℕ, ◌+◌, ◌*◌, ◌<◌, Bool, true, false, cond, ◌&&◌, ltb, leb, List, ◌∷◌, length, replicate, Some, None, sym, refl, ap, ◌∙◌, subst, arith}
+use Rattle.std.proofs.Common.{◌≡◌, ℕ, ◌+◌, ◌*◌, ◌<◌, Bool, true, false, cond, ◌&&◌, ltb, leb, List, ◌∷◌, length, replicate, Some, None, sym, refl, ap, ◌∙◌, subst, mul_assoc, add-zero, arith}
 use Rattle.std.proofs.lemmas.Bool.{eq-eqb}
 use Rattle.store.specs.declared.kinds.Shape.{Shape}
 use Rattle.store.specs.declared.kinds.State.{State}
@@ -8,11 +8,11 @@ use Rattle.block.specs.Block.{Block, IsBlock}
 use Rattle.store.specs.Meaning.{Limits}
 use Rattle.store.specs.Calls.{incomplete}
 use Rattle.grid.specs.Index.{index}
-use Rattle.grid.specs.Grid.{Sound, marked, written, dropped_in, fresh}
+use Rattle.grid.specs.Grid.{Sound, marked, written, dropped_in, cleared, fresh}
 use Rattle.grid.specs.Row.{Row}
-use Rattle.grid.proofs.Index.{index_slot, index_node, index_place, index_below, in_node}
-use Rattle.grid.proofs.Row.{written_row, dropped_in_row, fresh_row}
-use Rattle.grid.proofs.Grid.{open_sound, put_sound, seal_sound, wipe_sound, vacate_sound, fresh_sound}
+use Rattle.grid.proofs.Index.{index_slot, index_node, index_place, index_below, in_slot, in_node}
+use Rattle.grid.proofs.Row.{written_row, dropped_in_row, cleared_row, fresh_row}
+use Rattle.grid.proofs.Grid.{open_sound, put_sound, seal_sound, clear_sound, wipe_sound, fresh_sound}
 use Rattle.grid.proofs.Calls.{all_there}
 use Rattle.image_format.specs.Image.{Over, Wiped, start, size, record_at, record_of, head_of, cell_from, row_of, marks_of, grid_at, SoundImage, Holds}
 use Rattle.image_format.proofs.Image.{over_as}
@@ -47,8 +47,19 @@ module _ (h : Shape) (xs ys : List ℕ) (k : SoundImage h xs) (same : length ys 
       pub seal_image : new ≡ head_of Sealed → marks_of h xs s ≡ Open → incomplete h ((grid_at h xs).cell s) ≡ None → Becomes h ys (marked (grid_at h xs) s Sealed)
       seal_image e i none = head_image Sealed e (seal_sound (grid_at h xs) k.grid s s< i (all_there h ((grid_at h xs).cell s) none))
 
-      pub vacate_image : new ≡ head_of Empty → ((n p : ℕ) → (grid_at h xs).cell s n p ≡ None) → Becomes h ys (marked (grid_at h xs) s Empty)
-      vacate_image e bare = head_image Empty e (vacate_sound (grid_at h xs) k.grid s bare)
+    -- the head, then the records: zs is the image between
+    pub clear_image : (zs new : List ℕ) → length zs ≡ length xs → new ≡ head_of Empty → Over xs zs (8 * s) new → (at : ℕ) → at ≡ start h (index h s 0 0) → Wiped zs ys at (at + 72 * (h.nodes * h.places)) → Becomes h ys (cleared (grid_at h xs) s)
+    clear_image zs new l e o at from w =
+        let first = s * (h.nodes * h.places) in
+        let last = first + h.nodes * h.places in
+        let a : at ≡ start h first = omega (arith, from, mul_assoc s h.nodes h.places, add-zero (s * h.nodes)) in
+        let b : at + 72 * (h.nodes * h.places) ≡ start h last = omega (arith, a) in
+        let wiped : Wiped zs ys (start h first) (start h last) = subst (λ (x : ℕ). Wiped zs ys x (start h last)) a (subst (λ (x : ℕ). Wiped zs ys at x) b w) in
+        let f = head_held h xs zs (marks_of h xs) (row_of h xs) (held h xs k) l s s< Empty (over_as xs zs new (head_of Empty) (8 * s) (8 * s) refl e o) in
+        let row : Row = λ i. cond (leb first i && ltb i last) None (row_of h xs i) in
+        image_held h ys _ _ (wipe_held h zs ys _ _ f (same ∙ sym l) first last wiped) _
+        (cleared_row h (marks_of h xs) _ (row_of h xs) row s (λ t. refl) (λ t x y t< x< y<. ap (λ (b : Bool). cond b None (row_of h xs (index h t x y))) (in_slot h t x y x< y< s)))
+        (clear_sound (grid_at h xs) k.grid s)
 
     pub put_image : (n p : ℕ) → n < h.nodes → p < h.places → (v : Block) → IsBlock v → marks_of h xs s ≡ Open → (at : ℕ) → at ≡ start h (index h s n p) → (new : List ℕ) → new ≡ 1 ∷ s ∷ n ∷ p ∷ 0 ∷ 0 ∷ 0 ∷ 0 ∷ v → Over xs ys at new → Becomes h ys (written (grid_at h xs) s n p v)
     put_image n p n< p< v is e at i new j o =
