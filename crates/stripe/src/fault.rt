@@ -1,4 +1,8 @@
 // What this program finds wrong with a command, beyond what any program may find.
+ghost use Rattle.std.specs.Prelude.{◌≡◌};
+ghost use Rattle.console.specs.declared.mistake.Mistake.TheVariants.{Fault as OfFault};
+ghost use Rattle.stripe.specs.declared.fault.Fault.TheVariants.{Refused};
+
 use console::mistake;
 use refusal::kind::Refusal;
 use std::fmt;
@@ -29,6 +33,8 @@ impl fmt::Display for Fault {
 
 // So that `?` takes a fault.
 impl<'a> From<Fault> for Mistake<'a> {
+    ghost from_gives = { λ fault m. m ≡ OfFault fault };
+
     fn from(fault: Fault) -> Mistake<'a> {
         Mistake::Fault(fault)
     }
@@ -36,6 +42,8 @@ impl<'a> From<Fault> for Mistake<'a> {
 
 // So that `?` takes a refusal of a code.
 impl From<Refusal> for Fault {
+    ghost from_gives = { λ refusal f. f ≡ Refused refusal };
+
     fn from(refusal: Refusal) -> Fault {
         Fault::Refused(refusal)
     }

@@ -97,7 +97,7 @@ fn mark_of(i: usize, lost: &[usize]) -> u8
     u8::from(!lost.contains(&i))
 }
 
-// A mark for each of n blocks.
+// A mark for each of n blocks, or of n nodes.
 pub fn marks_of(heap: Global, n: usize, lost: &[usize]) -> Result<Vec<u8>, AllocError>
     ensures { IfOk result (λ v. Marks lost.now v.items n) }
 {

@@ -8,7 +8,7 @@ ghost use Rattle.stripe.specs.Seen.{piece_size};
 
 use crate::command::{Ground, Job};
 use crate::fault::Mistake;
-use crate::job::{all_below, parts_of, read};
+use crate::job::{all_below, marks_of, parts_of, read};
 use crate::level_report::{LevelReport, Rank};
 use crate::level_trial::{Trial, rank_bytes};
 use bank::Bank;
@@ -71,12 +71,14 @@ fn carry_all<'a>(
     };
     let mut ranks: Vec<Rank> = (0..trial.layout.nodes).map(unseen).collect(heap)?;
     let mut piece = vec![in heap; 0; piece_bytes(&trial.layout)]?;
-    // An empty file has a piece too: that of a zero.
-    let file = if file.is_empty() { &[0] } else { file };
-    for part in file.chunks(piece_bytes(&trial.layout)) {
+    // As many as `pieces_of` says, whose contract holds of an empty file too: that has a piece of no bytes.
+    let mut rest = file;
+    for _ in 0..pieces_of(&trial.layout, file) {
+        let (part, later) = rest.split_at(rest.len().min(piece.len()));
+        rest = later;
         load(piece.as_mut_slice(), part);
         let bank = Bank::new(shape, cells);
-        trial.carry(heap, bank, piece.as_slice(), &mut ranks)?;
+        trial.carry(bank, piece.as_slice(), &mut ranks)?;
     }
     Ok(ranks)
 }
@@ -103,6 +105,7 @@ pub fn protect<'a>(
     if !all_below(lost, shape.nodes) {
         return Err(Refusal::Node.into());
     }
+    let marks = marks_of(heap, shape.nodes, lost)?;
     let file = read(rt, job.path)?;
     let bytes = file.as_slice();
     let trial = Trial { layout, code, lost };
@@ -114,6 +117,7 @@ pub fn protect<'a>(
         bytes: file.len(),
         pieces: pieces_of(&layout, bytes),
         piece: piece_bytes(&layout),
+        marks,
         ranks,
     })
 }

@@ -1,5 +1,6 @@
 // What is told of a file on a level.
 use crate::command::Kind;
+use crate::job::Unmarked;
 use std::fmt;
 use stripe_map::layout::Layout;
 use words::counted::Counted;
@@ -61,6 +62,8 @@ pub struct LevelReport<'a> {
     pub pieces: usize,
     // bytes of a piece
     pub piece: usize,
+    // 0 for each node that was lost
+    pub marks: Vec<u8>,
     pub ranks: Vec<Rank>,
 }
 
@@ -83,28 +86,8 @@ impl LevelReport<'_> {
         let pieces = Counted::of(self.pieces, "piece");
         let piece = Counted::of(self.piece, "byte");
         writeln!(f, "file {path}: {bytes} in {pieces} of {piece}")?;
-        write!(f, "lost nodes:")?;
-        if self.ranks.iter().all(|rank| !rank.lost) {
-            return writeln!(f, " none");
-        }
-        self.write_numbers(f, |rank| rank.lost)?;
-        writeln!(f, "")
-    }
-
-    // The number of each rank that is picked, after a space. No contract: they are only printed.
-    fn write_numbers<W: fmt::Write, F: Fn(&Rank) -> bool>(
-        &self,
-        f: &mut fmt::Formatter<W>,
-        pick: F,
-    ) -> fmt::Result
-        requires { F.IsAlwaysCallable pick }
-    {
-        for (number, rank) in self.ranks.iter().enumerate() {
-            if pick(rank) {
-                write!(f, " {number}")?;
-            }
-        }
-        Ok(())
+        let lost = Unmarked::of(self.marks.as_slice());
+        writeln!(f, "lost nodes:{lost}")
     }
 
     // The ranks with a gap, if there is one. No contract: they are only printed.
@@ -113,7 +96,10 @@ impl LevelReport<'_> {
             return write!(f, "every byte came back");
         }
         write!(f, "ranks with gaps:")?;
-        self.write_numbers(f, |rank| !rank.back)
+        for (number, _) in self.ranks.iter().enumerate().filter(|(_, rank)| !rank.back) {
+            write!(f, " {number}")?;
+        }
+        Ok(())
     }
 }
 

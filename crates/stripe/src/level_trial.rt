@@ -11,7 +11,7 @@ use block::BLOCK;
 use codes::any::AnyCode;
 use refusal::kind::Refusal;
 use spread::lay::lay;
-use std::alloc::{AllocError, Global};
+use std::alloc::AllocError;
 use store::{Reading, Store, read_rank};
 use stripe_map::layout::Layout;
 
@@ -75,19 +75,24 @@ impl<R: Reading> Node<'_, R> {
         }
     }
 
-    // What became of each of its cells, by place.
-    fn fates(&self, heap: Global, places: usize) -> Result<Vec<Fate>, AllocError>
-        ensures { R.Reading.sound self.now.level.now → IfOk result (λ v. Fates (R.Reading.meaning self.now.level.now) self.now.number self.now.lost places v.items) }
+    // What became of each of its cells, by place, in a list that has the room of the piece before.
+    fn fates(&self, places: usize, cells: &mut Vec<Fate>) -> Result<(), AllocError>
+        ensures { R.Reading.sound self.now.level.now → OnOk result (Fates (R.Reading.meaning self.now.level.now) self.now.number self.now.lost places cells.new.items) }
     {
-        (0..places).map(|place| self.fate(place)).collect(heap)
+        cells.clear();
+        cells.extend((0..places).map(|place| self.fate(place)))
     }
 
     // Whether the bytes that were written as its rank came back; other bytes are a mistake.
-    fn comes_back<'m>(&self, heap: Global, written: &[u8]) -> Result<bool, Mistake<'m>>
+    fn comes_back<'m>(&self, written: &[u8]) -> Result<bool, Mistake<'m>>
         ensures { R.Reading.sound self.now.level.now → IfOk result (CameBack (R.Reading.meaning self.now.level.now) self.now.number written.now) }
     {
-        let mut room = vec![in heap; 0; written.len()]?;
-        let bytes = room.as_mut_slice();
+        // A fixed buffer with room for the longest file, so that comparing needs no memory.
+        let mut room = [0; 4096];
+        if written.len() > room.len() {
+            return Err(Refusal::Length.into());
+        }
+        let bytes = &mut room[..written.len()];
         match read_rank(self.level, SLOT, self.number, bytes) {
             Ok(()) if &bytes[..] == written => Ok(true),
             Ok(()) => Err(Fault::OtherBytes.into()),
@@ -97,12 +102,12 @@ impl<R: Reading> Node<'_, R> {
     }
 
     // Looks at its cells, and whether what was written came back.
-    fn look<'m>(&self, heap: Global, written: &[u8], rank: &mut Rank) -> Result<(), Mistake<'m>>
+    fn look<'m>(&self, written: &[u8], rank: &mut Rank) -> Result<(), Mistake<'m>>
         ensures cells { R.Reading.sound self.now.level.now → OnOk result (Fates (R.Reading.meaning self.now.level.now) self.now.number self.now.lost (length written.now / 64) rank.new.cells.items) }
         ensures back { R.Reading.sound self.now.level.now → OnOk result (rank.new.back ≡ true → (rank.old.back ≡ true) × CameBack (R.Reading.meaning self.now.level.now) self.now.number written.now true) }
     {
-        rank.cells = self.fates(heap, written.len() / BLOCK)?;
-        rank.back &= self.comes_back(heap, written)?;
+        self.fates(written.len() / BLOCK, &mut rank.cells)?;
+        rank.back &= self.comes_back(written)?;
         Ok(())
     }
 }
@@ -121,7 +126,6 @@ impl Trial<'_> {
     // is said by `look`; that every rank is looked at is only tested.
     pub fn carry<'m, S: Store + Drop>(
         &self,
-        heap: Global,
         below: S,
         piece: &[u8],
         ranks: &mut Vec<Rank>,
@@ -136,7 +140,7 @@ impl Trial<'_> {
                 number,
                 lost: rank.lost,
             };
-            node.look(heap, written, rank)?;
+            node.look(written, rank)?;
         }
         Ok(())
     }
