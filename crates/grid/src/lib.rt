@@ -35,7 +35,7 @@ pub trait BareReading {
         ensures { MatchOption result ((grid self.now).cell slot node place ≡ None) (λ b. (grid self.now).cell slot node place ≡ Some b.now) };
 }
 
-// What can also be changed, a mark, a cell, or the cells of a node in one slot at a time.
+// What can also be changed: a mark, a cell, the cells of a node in one slot, or a whole slot.
 pub trait BareStore: BareReading {
     // Nothing of what the node's cells held in the slot is left.
     ghost wiped: { Self → ℕ → ℕ → Type 0 };
@@ -67,7 +67,7 @@ pub trait BareStore: BareReading {
         ensures wiped { wiped self.new slot node }
         ensures kept { (s n : ℕ) → s < (Self.BareReading.grid self.old).shape.slots → n < (Self.BareReading.grid self.old).shape.nodes → wiped self.old s n → wiped self.new s n };
 
-    // Marks a slot as empty, then drops its cells and wipes them.
+    // Marks a slot as empty, and drops and wipes its cells.
     fn vacate(&mut self, slot: usize)
         requires { slot < (Self.BareReading.grid self.old).shape.slots }
         ensures { Self.BareReading.grid self.new ≡ cleared (Self.BareReading.grid self.old) slot };

@@ -87,7 +87,7 @@ impl<R: Reading> Node<'_, R> {
     fn comes_back<'m>(&self, written: &[u8]) -> Result<bool, Mistake<'m>>
         ensures { R.Reading.sound self.now.level.now → IfOk result (CameBack (R.Reading.meaning self.now.level.now) self.now.number written.now) }
     {
-        // A fixed buffer with room for the longest file, so that comparing needs no memory.
+        // A fixed buffer with room for the most that a rank has of a piece, so that comparing needs no memory.
         let mut room = [0; 4096];
         if written.len() > room.len() {
             return Err(Refusal::Length.into());
